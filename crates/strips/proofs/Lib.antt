@@ -2,3 +2,4 @@ pub mod Masks
 pub mod Members
 pub mod Soundness
 pub mod Layered
+pub mod Rowed

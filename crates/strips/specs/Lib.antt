@@ -3,5 +3,7 @@ pub mod Task
 pub mod Bits
 pub mod Parts
 pub mod Rows
+pub mod Table
 pub mod Layers
 pub mod Soundness
+pub mod Closed

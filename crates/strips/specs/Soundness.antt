@@ -69,7 +69,7 @@ trimmed t = record {
   goal = clipped (min (t .atoms) 2080) (t .goal);
 }
 
-no-action-sound : (n : ℕ) → Sound-action n no-action
+pub no-action-sound : (n : ℕ) → Sound-action n no-action
 no-action-sound n = record {
   needs-in = within-nothing n;
   adds-in = within-nothing n;

@@ -9,3 +9,21 @@ pub struct Row {
     pub removes: AtomSet,
     pub cost: u16,
 }
+
+impl Row {
+    /// What is answered for a number that is no action's: no atoms, cost 0.
+    pub const NONE: Row = Row {
+        needs: AtomSet::EMPTY,
+        adds: AtomSet::EMPTY,
+        removes: AtomSet::EMPTY,
+        cost: 0,
+    };
+
+    /// A row as clearing a row table leaves it: no atoms, cost 1.
+    pub const BLANK: Row = Row {
+        needs: AtomSet::EMPTY,
+        adds: AtomSet::EMPTY,
+        removes: AtomSet::EMPTY,
+        cost: 1,
+    };
+}
