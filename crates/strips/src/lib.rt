@@ -13,6 +13,7 @@ mod task;
 
 pub use answering::RowTask;
 pub use atoms::AtomSet;
+pub use atoms::AtomSetPartialEq;
 pub use closures::Closed;
 pub use closures::ClosedTask;
 pub use closures::Closures;
