@@ -1,6 +1,13 @@
 //! What a search asks about the cost that is still to come.
+use bounds::CostTable;
+use bounds::Order;
+use bounds::direct_bound;
 use strips::AtomSet;
 use strips::Denial;
+use strips::Errand;
+use strips::ErrandTask;
+use strips::LentTask;
+use strips::Part;
 use strips::Task;
 
 /// Estimates what the goal of a task costs at least from a state: a cost, or none where it cannot be reached.
@@ -8,13 +15,27 @@ pub trait Estimator {
     fn estimate<T: Task>(&mut self, task: &T, state: AtomSet) -> Result<Option<u32>, Denial>;
 }
 
-/// Refuses a task of more than 64 atoms or 256 actions, and a state with an atom that the task does not have.
-fn refusal<T: Task>(task: &T, state: AtomSet) -> Option<Denial> {
-    let atoms = task.atoms();
-    if atoms > 64 || task.actions() > 256 {
-        return Some(Denial::TaskOutOfRange);
+/// Refuses a task of more than 64 atoms or 256 actions.
+fn sized<T: Task>(task: &T) -> Result<(), Denial> {
+    if task.atoms() > 64 || task.actions() > 256 {
+        return Err(Denial::TaskOutOfRange);
     }
-    if state.is_below(atoms) { None } else { Some(Denial::AtomOutOfRange) }
+    Ok(())
+}
+
+/// Refuses such a task, and then sets of another size than 1 or 2.
+fn ordered<T: Task>(task: &T, order: usize) -> Result<(), Denial> {
+    sized(task)?;
+    match Order::of(order) {
+        Some(_) => Ok(()),
+        None => Err(Denial::OrderUnknown),
+    }
+}
+
+/// The task from another state.
+fn from<T: Task>(task: &T, state: AtomSet) -> Result<Errand<&T>, Denial> {
+    let goal = task.set_of(Part::Goal);
+    Errand::new(task, state, goal)
 }
 
 /// Says 0 of every state.
@@ -23,9 +44,34 @@ pub struct Blind;
 
 pub impl Estimator for Blind as BlindEstimator {
     fn estimate<T: Task>(&mut self, task: &T, state: AtomSet) -> Result<Option<u32>, Denial> {
-        match refusal(task, state) {
-            Some(denial) => Err(denial),
-            None => Ok(Some(0)),
+        sized(task)?;
+        if !state.is_below(task.atoms()) {
+            return Err(Denial::AtomOutOfRange);
         }
+        Ok(Some(0))
+    }
+}
+
+/// Says the bound over sets of 1 to `order` atoms, from the task itself.
+#[derive(Clone, Copy)]
+pub struct Direct {
+    order: usize,
+    table: CostTable,
+}
+
+impl Direct {
+    pub fn new(order: usize) -> Direct {
+        Direct {
+            order,
+            table: CostTable::new(),
+        }
+    }
+}
+
+pub impl Estimator for Direct as DirectEstimator {
+    fn estimate<T: Task>(&mut self, task: &T, state: AtomSet) -> Result<Option<u32>, Denial> {
+        ordered(task, self.order)?;
+        let errand = from(task, state)?;
+        direct_bound(&mut self.table, &errand, self.order)
     }
 }

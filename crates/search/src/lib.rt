@@ -8,6 +8,9 @@ ghost use Rattle.search.specs.Ending.{Ends-in};
 mod place;
 
 use estimators::Estimator;
+pub use place::Answer;
+pub use place::Place;
+pub use place::Refused;
 use strips::AtomSet;
 use strips::AtomSetPartialEq;
 use strips::Denial;
@@ -15,10 +18,6 @@ use strips::Part;
 use strips::RowTable;
 use strips::RowTask;
 use strips::Task;
-
-pub use place::Answer;
-pub use place::Place;
-pub use place::Refused;
 
 /// The most places that are used, however long the table is.
 const MOST_PLACES: usize = 4096;
@@ -37,7 +36,10 @@ fn refused(denial: Denial) -> Refused {
 }
 
 fn full(used: usize) -> Refused {
-    Refused { denial: Denial::PlacesSpent, used: Some(used) }
+    Refused {
+        denial: Denial::PlacesSpent,
+        used: Some(used),
+    }
 }
 
 /// The open place of least paid + estimate, the lowest of several.
@@ -62,14 +64,24 @@ fn reached(place: Place, paid: u32, parent: usize, action: usize) -> Place
     requires { ⌜ parent < 4096 ⌝ ∗ ⌜ action < 256 ⌝ }
 {
     if place.open && paid < place.paid {
-        Place { paid, parent: parent as u16, action: action as u16, ..place }
+        Place {
+            paid,
+            parent: parent as u16,
+            action: action as u16,
+            ..place
+        }
     } else {
         place
     }
 }
 
 /// The turns of a search from the table's first place.
-fn turns<E: Estimator>(task: &RowTable, estimator: &mut E, places: &mut [Place], room: usize) -> Result<Ending, Refused>
+fn turns<E: Estimator>(
+    task: &RowTable,
+    estimator: &mut E,
+    places: &mut [Place],
+    room: usize,
+) -> Result<Ending, Refused>
     requires { ⌜ 0 < room ⌝ ∗ ⌜ room ≤ length (now places) ⌝ ∗ ⌜ room ≤ 4096 ⌝ }
     ensures { λ r. ⌜ made r (Ends-in room) ⌝ }
 {
@@ -85,7 +97,10 @@ fn turns<E: Estimator>(task: &RowTable, estimator: &mut E, places: &mut [Place],
         if goal.is_inside(from.state) {
             return Ok(Ending::Goal(chosen, used));
         }
-        places[chosen] = Place { open: false, ..from };
+        places[chosen] = Place {
+            open: false,
+            ..from
+        };
         'actions: for action in 0..actions {
             let row = task.row(action);
             if !row.needs.is_inside(from.state) {
@@ -112,7 +127,14 @@ fn turns<E: Estimator>(task: &RowTable, estimator: &mut E, places: &mut [Place],
             if used == room {
                 return Err(full(used));
             }
-            places[used] = Place { state, paid, estimate, parent: chosen as u16, action: action as u16, open: true };
+            places[used] = Place {
+                state,
+                paid,
+                estimate,
+                parent: chosen as u16,
+                action: action as u16,
+                open: true,
+            };
             used += 1;
         }
     }
@@ -158,7 +180,12 @@ fn tell(places: &[Place], goal: usize, used: usize, plan: &mut [u16]) -> Result<
 }
 
 /// Searches for a cheapest plan of a task, from its start, in the table `places`, and writes it to the front of `plan`.
-pub fn search<T: Task, E: Estimator>(task: &T, estimator: &mut E, places: &mut [Place], plan: &mut [u16]) -> Result<Answer, Refused> {
+pub fn search<T: Task, E: Estimator>(
+    task: &T,
+    estimator: &mut E,
+    places: &mut [Place],
+    plan: &mut [u16],
+) -> Result<Answer, Refused> {
     let mut copy = RowTable::new();
     if let Err(denial) = copy.copy_from(task) {
         return Err(refused(denial));
@@ -173,7 +200,14 @@ pub fn search<T: Task, E: Estimator>(task: &T, estimator: &mut E, places: &mut [
     if room == 0 {
         return Err(full(0));
     }
-    places[0] = Place { state, paid: 0, estimate, parent: 0, action: 0, open: true };
+    places[0] = Place {
+        state,
+        paid: 0,
+        estimate,
+        parent: 0,
+        action: 0,
+        open: true,
+    };
     match turns(&copy, estimator, places, room)? {
         Ending::Goal(goal, used) => tell(places, goal, used, plan),
         Ending::Spent(used) => Ok(Answer::Nothing(used)),

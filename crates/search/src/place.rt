@@ -18,7 +18,14 @@ pub struct Place {
 }
 
 impl Place {
-    pub const EMPTY: Place = Place { state: AtomSet::EMPTY, paid: 0, estimate: 0, parent: 0, action: 0, open: false };
+    pub const EMPTY: Place = Place {
+        state: AtomSet::EMPTY,
+        paid: 0,
+        estimate: 0,
+        parent: 0,
+        action: 0,
+        open: false,
+    };
 }
 
 /// What a search tells.

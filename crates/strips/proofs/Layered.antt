@@ -16,7 +16,7 @@ use Rattle.strips.specs.Rows.{row-action, clipped-action}
 use Rattle.strips.specs.Closed.{closed-of}
 use Rattle.strips.specs.declared.row.Row.{Row}
 use Rattle.strips.specs.Layers.{with-errand, errand-task, errand-denied, idle}
-use Rattle.strips.proofs.Masks.{inside-each, inside-from}
+use Rattle.strips.proofs.Binary.{inside-each, inside-from}
 use Rattle.strips.proofs.Members.{clipped-within, bits-none}
 
 pub is-small : (t : Task) → t .atoms ≤ 64 → t .actions ≤ 256 → small t ≡ true

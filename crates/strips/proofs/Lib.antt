@@ -1,4 +1,4 @@
-pub mod Masks
+pub mod Binary
 pub mod Members
 pub mod Soundness
 pub mod Layered

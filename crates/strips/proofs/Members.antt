@@ -16,7 +16,7 @@ use Rattle.strips.specs.Sets.{Atoms, joined, without, clipped, first, plus, Wi
 use Rattle.strips.specs.Bits.{bit, bits-of, number}
 use Rattle.strips.specs.Parts.{First-from}
 use native.Mathlib.Numerals.{add-one}
-use Rattle.strips.proofs.Masks.{lowest-bit, number-below, number-bit, or-above, bit-and, bit-or, bit-cut, bit-pow, same-number, high-none, none-bit, number-of-bits, inside-each, inside-from, meets-from, meets-none, same-test}
+use Rattle.strips.proofs.Binary.{lowest-bit, number-below, number-bit, or-above, bit-and, bit-or, bit-cut, bit-pow, same-number, high-none, none-bit, number-of-bits, inside-each, inside-from, meets-from, meets-none, same-test}
 
 none : (b : Bool) → (b && false) ≡ false
 none true = refl

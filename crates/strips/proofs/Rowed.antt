@@ -19,7 +19,7 @@ use Rattle.strips.specs.Rows.{row-action, clipped-action, blank-row, no-row, r
 use Rattle.strips.specs.Table.{blank-task}
 use Rattle.strips.specs.declared.row.Row.{Row}
 use Rattle.strips.specs.declared.atoms.AtomSet.{AtomSet}
-use Rattle.strips.proofs.Masks.{meets-from}
+use Rattle.strips.proofs.Binary.{meets-from}
 use Rattle.strips.proofs.Members.{bits-none, clipped-within}
 
 -- no atom is in a set without bits

@@ -1,9 +1,11 @@
 //! Sets of atoms below 64.
 ghost use mathlib.Core.Path.{_≡_};
 ghost use Prim.Native.Nat.{ℕ, _<_};
-ghost use Rattle.strips.specs.Sets.{joined as union, without as difference, clipped, first, plus, inside, meets as overlap};
+ghost use Rattle.strips.specs.Sets.{joined as union, without as difference, clipped, first, plus, inside, meets as overlap, Within};
+ghost use mathlib.Core.Bool.{true};
 ghost use Rattle.strips.specs.Bits.{bits-of, members, number};
 ghost use Rattle.strips.specs.Parts.{First-from};
+use crate::masks;
 
 /// A set of atoms below 64.
 #[derive(Clone, Copy, PartialEq, Eq)]
@@ -19,47 +21,37 @@ impl AtomSet {
     pub fn from_bits(bits: u64) -> AtomSet
         ensures { λ r. ⌜ members r ≡ bits-of bits ⌝ }
     {
-        AtomSet { bits }
+        Self { bits }
     }
 
     /// The number whose bits are the atoms of the set.
     pub fn bits(self) -> u64
         ensures { λ r. ⌜ r ≡ number 64 (members self) ⌝ }
     {
-        self.bits
+        let AtomSet { bits } = self;
+        bits
     }
 
     /// Whether an atom is in the set.
     pub fn has(self, atom: usize) -> bool
         ensures { λ r. ⌜ r ≡ members self atom ⌝ }
     {
-        atom < 64 && (self.bits >> atom) % 2 == 1
+        masks::has_bit(self.bits, atom)
     }
 
     /// The first atom of the set at or after `from`.
     pub fn next(self, from: usize) -> Option<usize>
         ensures { λ r. ⌜ First-from (members self) from r ⌝ }
     {
-        if from >= 64 {
-            return None;
-        }
-        let rest = self.bits >> from;
-        if rest == 0 {
-            return None;
-        }
-        Some(from + rest.trailing_zeros() as usize)
+        masks::next_bit(self.bits, from)
     }
 
     /// The set with an atom put in; an atom of 64 or more is left out.
     pub fn with(self, atom: usize) -> AtomSet
         ensures { λ r. ⌜ members r ≡ clipped 64 (plus atom (members self)) ⌝ }
     {
-        if atom < 64 {
-            AtomSet {
-                bits: self.bits | (1 << atom),
-            }
-        } else {
-            self
+        AtomSet {
+            bits: masks::put_bit(self.bits, atom),
         }
     }
 
@@ -68,7 +60,7 @@ impl AtomSet {
         ensures { λ r. ⌜ members r ≡ union (members self) (members other) ⌝ }
     {
         AtomSet {
-            bits: self.bits | other.bits,
+            bits: masks::union(self.bits, other.bits),
         }
     }
 
@@ -77,7 +69,7 @@ impl AtomSet {
         ensures { λ r. ⌜ members r ≡ difference (members self) (members other) ⌝ }
     {
         AtomSet {
-            bits: self.bits ^ (self.bits & other.bits),
+            bits: masks::difference(self.bits, other.bits),
         }
     }
 
@@ -85,20 +77,21 @@ impl AtomSet {
     pub fn is_inside(self, other: AtomSet) -> bool
         ensures { λ r. ⌜ r ≡ inside 64 (members self) (members other) ⌝ }
     {
-        self.bits & other.bits == self.bits
+        masks::is_subset(self.bits, other.bits)
     }
 
     /// Whether some atom is in the other set.
     pub fn meets(self, other: AtomSet) -> bool
         ensures { λ r. ⌜ r ≡ overlap 64 (members self) (members other) ⌝ }
     {
-        self.bits & other.bits != 0
+        masks::overlaps(self.bits, other.bits)
     }
 
     /// Whether every atom is below n.
     pub fn is_below(self, n: usize) -> bool
-        ensures { λ r. ⌜ r ≡ inside 64 (members self) (first n) ⌝ }
+        ensures test { λ r. ⌜ r ≡ inside 64 (members self) (first n) ⌝ }
+        ensures within { λ r. ⌜ (r ≡ true → Within n (members self)) ⌝ }
     {
-        n >= 64 || self.bits >> n == 0
+        masks::all_below(self.bits, n)
     }
 }

@@ -6,6 +6,7 @@ mod copying;
 mod denial;
 mod errand;
 mod filling;
+mod masks;
 mod part;
 mod row;
 mod table;

@@ -1,11 +1,11 @@
 use mathlib.Core.Path.{sym, _∙_}
-use native.Mathlib.Omega.{arith}
-use borrow.Author.Tests.{le-leb}
-use Rattle.strips.proofs.Members.{below-all, below-test}
+use Rattle.strips.specs.Bits.{bit, members}
+use Rattle.strips.specs.Soundness.{within-clipped}
+use Rattle.strips.proofs.Layered.{below-within}
 use Rattle.strips.proofs.atoms.AtomSet.is_below.Needs as need
 
-pub returns-then-n-ge64 : need.returns-then-n-ge64
-returns-then-n-ge64 c = le-leb 64 (c .args .n) (c .if-n-ge64 .taken) ∙ sym (below-all (c .args .self .bits) (c .args .n) (c .if-n-ge64 .taken))
-
-pub returns-else-n-ge64 : need.returns-else-n-ge64
-returns-else-n-ge64 c = below-test (c .args .self .bits) (c .args .n) (omega arith) (c .if-n-ge64 .left)
+pub returns : need.returns
+returns c = record {
+  test = c .all-below .ensures;
+  within = λ e. below-within (c .args .n) (members (c .args .self)) (within-clipped 64 (λ p. bit p (c .args .self .bits))) (sym e ∙ c .all-below .ensures);
+}

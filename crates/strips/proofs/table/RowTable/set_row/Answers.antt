@@ -1,10 +1,9 @@
-use mathlib.Core.Path.{_≡_}
+use mathlib.Core.Path.{_≡_, refl}
 use Prim.Native.Nat.{_≤_, _<_}
 use native.Mathlib.Omega.{arith}
 use lib.ListN.{length}
 use Rattle.strips.specs.Sets.{Within, Apart}
 use Rattle.strips.specs.Bits.{members}
-use Rattle.strips.proofs.Layered.{below-within}
 use Rattle.strips.proofs.Rowed.{set-each, apart-from, members-within}
 use Rattle.strips.proofs.table.RowTable.set_row.Needs as need
 
@@ -22,11 +21,11 @@ ghost-self c =
           (
             t .«goal_in»,
             (
-              set-each (λ r. Within n (members (r .needs))) (t .rows) (c .args .action) row long (t .«needs_in») (below-within n (members (row .needs)) (members-within (row .needs)) (c .if-not-is-below .ensures tt)),
+              set-each (λ r. Within n (members (r .needs))) (t .rows) (c .args .action) row long (t .«needs_in») (c .if-not-is-below .ensures tt .within refl),
               (
-                set-each (λ r. Within n (members (r .adds))) (t .rows) (c .args .action) row long (t .«adds_in») (below-within n (members (row .adds)) (members-within (row .adds)) (c .if-not-is-below-2 .ensures tt)),
+                set-each (λ r. Within n (members (r .adds))) (t .rows) (c .args .action) row long (t .«adds_in») (c .if-not-is-below-2 .ensures tt .within refl),
                 (
-                  set-each (λ r. Within n (members (r .removes))) (t .rows) (c .args .action) row long (t .«removes_in») (below-within n (members (row .removes)) (members-within (row .removes)) (c .if-not-is-below-3 .ensures tt)),
+                  set-each (λ r. Within n (members (r .removes))) (t .rows) (c .args .action) row long (t .«removes_in») (c .if-not-is-below-3 .ensures tt .within refl),
                   (
                     set-each (λ r. Apart (members (r .adds)) (members (r .removes))) (t .rows) (c .args .action) row long (t .apart) (apart-from (members (row .adds)) (members (row .removes)) (members-within (row .adds)) (c .if-meets .ensures tt)),
                     (set-each (λ r. r .cost ≤ 65535) (t .rows) (c .args .action) row long (t .cheap) (omega arith), tt),

@@ -1,0 +1,3 @@
+pub mod Smalls
+pub mod Costs
+pub mod Orders

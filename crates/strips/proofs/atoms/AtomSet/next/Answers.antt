@@ -1,9 +1,0 @@
-use native.Mathlib.Omega.{arith}
-use Rattle.strips.proofs.Members.{next-none, next-some}
-use Rattle.strips.proofs.atoms.AtomSet.next.Needs as need
-
-pub returns-then-rest-eq0 : need.returns-then-rest-eq0
-returns-then-rest-eq0 c = next-none (c .args .self .bits) (c .args .from) (c .if-rest-eq0 .taken)
-
-pub returns : need.returns
-returns c = next-some (c .args .self .bits) (c .args .from) (omega arith) (c .if-rest-eq0 .left)
