@@ -1,13 +1,13 @@
 -- The numbers of the sets of up to two atoms in closed form.
-use mathlib.Core.Path.{_≡_, refl, sym, _∙_, ap, subst}
-use mathlib.Core.List.{List, [], _∷_, _++_, map}
-use Prim.Native.Nat.{ℕ, zero, suc, _+_, _-_, _*_, _/_, _≤_, _<_}
+use mathlib.Core.Path.{_≡_, refl, _∙_, subst}
+use mathlib.Core.List.{[], _∷_}
+use Prim.Native.Nat.{ℕ, zero, suc, _+_, _-_, _*_, _/_}
 use native.Mathlib.Omega.{arith}
 use native.Mathlib.Nat.{suc-mul, mul-suc}
-use lib.ListN.{length, getD}
-use Rattle.strips.specs.Sets.{Atoms, nothing, plus}
-use Rattle.bounds.specs.Smalls.{sized, smalls, choose, many, Closed-forms, Closed}
-use Rattle.bounds.proofs.Places.{place, length-smalls, numbered}
+use lib.ListN.{getD}
+use Rattle.strips.specs.Sets.{nothing, plus}
+use Rattle.bounds.specs.Smalls.{smalls, choose, many, Closed}
+use Rattle.bounds.proofs.Places.{length-smalls, numbered}
 
 choose-1 : (n : ℕ) → choose n 1 ≡ n
 unfolding choose

@@ -1,9 +1,11 @@
 //! The bounds over sets of one or two atoms, on the task itself.
 ghost use mathlib.Core.Path.{_≡_};
 ghost use mathlib.Core.Logic.{_≢_};
-ghost use Prim.Native.Nat.{ℕ, _+_, _-_, _*_, _/_, _<_, _≤_};
-ghost use lib.ListN.{length};
+ghost use Prim.Native.Nat.{_+_, _-_, _*_, _/_, _<_, _≤_};
 ghost use Rattle.std.specs.Options.{Cases};
+ghost use Rattle.std.specs.Results.{Cases as ByOk};
+ghost use Rattle.std.specs.declared.option.Option.the-variants.{Some, None};
+ghost use Rattle.bounds.specs.Orders.{bound-denied};
 use crate::CostTable;
 use crate::NONE;
 use crate::Order;
@@ -205,7 +207,9 @@ pub fn direct_bound<T: Task>(
     table: &mut CostTable,
     task: &T,
     order: usize,
-) -> Result<Option<u32>, Denial> {
+) -> Result<Option<u32>, Denial>
+    ensures { λ r. ⌜ ByOk r (λ _. bound-denied (T·Task .meaning (now (task .entry))) order ≡ None) (λ d. bound-denied (T·Task .meaning (now (task .entry))) order ≡ Some d) ⌝ }
+{
     let mut rows = RowTable::new();
     rows.copy_from(task)?;
     let Some(order) = Order::of(order) else {

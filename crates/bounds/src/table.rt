@@ -1,6 +1,5 @@
 //! Costs of sets of atoms.
 ghost use mathlib.Core.Path.{_≡_};
-ghost use Prim.Native.Nat.{ℕ};
 ghost use lib.ListN.{replicate};
 ghost use Rattle.bounds.specs.Costs.{cost-at, above, lowered};
 

@@ -2,6 +2,7 @@
 use bounds::CostTable;
 use bounds::Order;
 use bounds::direct_bound;
+use compiled::compiled_bound;
 use strips::AtomSet;
 use strips::Denial;
 use strips::Errand;
@@ -52,7 +53,7 @@ pub impl Estimator for Blind as BlindEstimator {
     }
 }
 
-/// Says the bound over sets of 1 to `order` atoms, from the task itself.
+/// Says the bound over sets of 1 to `order` atoms, computed on the task itself.
 #[derive(Clone, Copy)]
 pub struct Direct {
     order: usize,
@@ -73,5 +74,29 @@ pub impl Estimator for Direct as DirectEstimator {
         ordered(task, self.order)?;
         let errand = from(task, state)?;
         direct_bound(&mut self.table, &errand, self.order)
+    }
+}
+
+/// Says the same bound, computed on the task compiled into those sets.
+#[derive(Clone, Copy)]
+pub struct ByCompiling {
+    order: usize,
+    table: CostTable,
+}
+
+impl ByCompiling {
+    pub fn new(order: usize) -> ByCompiling {
+        ByCompiling {
+            order,
+            table: CostTable::new(),
+        }
+    }
+}
+
+pub impl Estimator for ByCompiling as CompilingEstimator {
+    fn estimate<T: Task>(&mut self, task: &T, state: AtomSet) -> Result<Option<u32>, Denial> {
+        ordered(task, self.order)?;
+        let errand = from(task, state)?;
+        compiled_bound(&mut self.table, &errand, self.order)
     }
 }

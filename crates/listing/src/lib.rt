@@ -1,9 +1,11 @@
-//! The lines that tell what a task file asks and what its errand costs.
+//! The lines that tell what a task asks and what its errand costs.
 mod lines;
-mod seconds;
+mod rounding;
 mod telling;
 
 pub use lines::BoundLine;
+pub use lines::BoundLineDisplay;
 pub use lines::PlanLine;
-pub use seconds::seconds;
+pub use lines::PlanLineDisplay;
+pub use rounding::seconds;
 pub use telling::listing;

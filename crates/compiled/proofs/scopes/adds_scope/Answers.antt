@@ -1,0 +1,21 @@
+use mathlib.Core.Path.{sym, ap, subst}
+use Rattle.bounds.specs.Orders.{size-of}
+use Rattle.compiled.specs.Compiled.{compiled-task}
+use Rattle.compiled.specs.Decoded.{Scope-is}
+use Rattle.compiled.proofs.Whole.{small-parts}
+use Rattle.compiled.proofs.Compiling.{action-none, adds-scoped}
+use Rattle.compiled.proofs.scopes.adds_scope.Needs as need
+
+pub carrier-at-requires : need.carrier-at-requires
+carrier-at-requires g c κs = small-parts (g .T·Task .meaning (c .args .task .now)) (c .pre) .0
+
+pub returns-in-Break-carrier : need.returns-in-Break-carrier
+returns-in-Break-carrier g c =
+    let t = g .T·Task .meaning (c .args .task .now) in
+    let m = size-of (c .args .order) in
+    subst (Scope-is m t (compiled-task m t .action (c .args .action) .adds)) (sym (c .from-residual .ensures))
+    (ap (λ b. b .adds) (action-none (c .args .order) t (g .T·Task .sound (c .args .task .now)) (c .pre) (c .args .action) (c .in-Break-carrier .ensures tt)))
+
+pub returns : need.returns
+returns g c =
+    adds-scoped (c .args .order) (g .T·Task .meaning (c .args .task .now)) (g .T·Task .sound (c .args .task .now)) (c .pre) (c .args .action) (c .in-Continue-carrier .carrier) (c .in-Continue-carrier .ensures tt)

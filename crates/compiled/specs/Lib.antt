@@ -1,0 +1,2 @@
+pub mod Compiled
+pub mod Decoded

@@ -1,0 +1,9 @@
+pub mod Contents
+pub mod Field
+pub mod Chain
+pub mod Strict
+pub mod Whole
+pub mod Stable
+pub mod Runs
+pub mod Views
+pub mod Writes
