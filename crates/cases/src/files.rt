@@ -58,7 +58,7 @@ fn fields() -> Result<(), Fail> {
 
 #[test]
 fn written() -> Result<(), Fail> {
-    let task = shuttle().ok().ok_or("no shuttle")?;
+    let task = shuttle();
     let mut out = [7u8; 120];
     check(write(&task, &mut out[0..118]).is_err())?;
     check_eq(out[0], 7)?;
@@ -66,7 +66,9 @@ fn written() -> Result<(), Fail> {
     check_eq(out[4], 3)?;
     check_eq(out[118], 4)?;
     check_eq(out[119], 7)?;
-    let view = FileView::open(&out[0..119]).ok().ok_or("it is refused")?;
+    let Ok(view) = FileView::open(&out[0..119]) else {
+        return Err(Fail::new("it is refused"));
+    };
     check_eq(view.row(3).needs.bits(), 6)?;
     let mut copy = RowTable::new();
     check(copy.copy_from(&view).is_ok())?;

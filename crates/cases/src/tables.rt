@@ -20,7 +20,7 @@ fn refused(answer: Result<(), Denial>, number: u8) -> Result<(), Fail> {
 
 #[test]
 fn rows() -> Result<(), Fail> {
-    let mut task = shuttle().ok().ok_or("no shuttle")?;
+    let mut task = shuttle();
     refused(task.clear(65, 1), 3)?;
     refused(task.set_row(4, row(16, 1, 1, 0)), 9)?;
     refused(task.set_row(3, row(16, 1, 1, 0)), 5)?;
@@ -33,7 +33,7 @@ fn rows() -> Result<(), Fail> {
 
 #[test]
 fn layers() -> Result<(), Fail> {
-    let task = shuttle().ok().ok_or("no shuttle")?;
+    let task = shuttle();
     let mut closures = Closures::none();
     check(closures.mark(4, true).is_ok())?;
     refused(closures.mark(256, true), 9)?;

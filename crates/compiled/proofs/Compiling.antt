@@ -27,7 +27,8 @@ use Rattle.compiled.specs.Decoded.{Carrier-is, Scope-is, scoped}
 use Rattle.compiled.specs.declared.carriers.Carrier.{Carrier}
 use Rattle.compiled.specs.declared.subsets.Scope.{Scope}
 use Rattle.compiled.proofs.Scoped.{set-some}
-use Rattle.compiled.proofs.Whole.{small-parts, compiled-whole, compiled-none, carried-none}
+use Rattle.strips.proofs.Layered.{small-parts}
+use Rattle.compiled.proofs.Whole.{compiled-whole, compiled-none, carried-none}
 
 -- a set that is inside B meets it
 within-self : (o : Order) (n : ℕ) (B : Atoms) → within n (size-of o) B ≡ within-meeting n (size-of o) B B

@@ -178,6 +178,9 @@ scoped-by o n i s S B A h l e f =
 abbrev pub around : Scope → Atoms
 around s = joined (members (s .core)) (members (s .rim))
 
+pub lows-under : (s : Scope) (high low : ℕ) → lows s high low ≡ true → low < high
+lows-under s high low e = ltb-true low high (and-parts (ltb low high) ((around s high && around s low) && (members (s .core) high || members (s .core) low)) e .0)
+
 pub lows-off : (s : Scope) (high i : ℕ) → around s high ≡ false → lows s high i ≡ false
 lows-off s high i e = rw e (off (ltb i high))
   where
@@ -222,7 +225,7 @@ tri-over j high z h = let k : high - 1 < high = omega arith in let r = tri-below
 
 pub pairs-found : (n from base high low : ℕ) (s : Scope) → base ≡ n + tri high → high < n → None-below n s from high → First-from (lows s high) (from - base) (Some low) → First-from (scoped-pairs n s) from (Some (base + low))
 pairs-found n from base high low s b k none f =
-    let under : low < high = ltb-true low high (and-parts (ltb low high) _ (f .1) .0) in
+    let under : low < high = lows-under s high low (f .1) in
     let l = f .0 in
     let e : n + tri high + low ≡ base + low = omega arith in
     let top = tri-below n low high under k in
@@ -230,7 +233,7 @@ pairs-found n from base high low s b k none f =
   where
     before : (p : ℕ) → from ≤ p → p < base + low → n ≤ p → scoped-pairs n s p ≡ false
     before p g h q =
-        let under : low < high = ltb-true low high (and-parts (ltb low high) _ (f .1) .0) in
+        let under : low < high = lows-under s high low (f .1) in
         let top = tri-below n low high under k in
         let r = pair-of n (p - n) (omega arith) in
         let at = r .placed in

@@ -6,15 +6,16 @@ use mathlib.Core.List.{List, [], _∷_, _++_, map}
 use Prim.Native.Nat.{ℕ, zero, suc, _+_, _-_, _*_, _≤_, _<_, min}
 use native.Mathlib.Omega.{arith}
 use native.Mathlib.Nat.{suc-mul}
-use lib.Dec.{ltb, leb}
+use lib.Dec.{ltb}
 use lib.ListN.{length, getD, length-append, List·getD-append, List·getD-eq-default}
 use lib.Seq.{getD-append-add}
-use borrow.Author.Tests.{lt-ltb, le-ltb, leb-true}
-use Rattle.std.proofs.shelf.Tests.{cases-lt, cases-bool, and-parts}
+use borrow.Author.Tests.{lt-ltb, le-ltb}
+use Rattle.std.proofs.shelf.Tests.{cases-lt, cases-bool}
 use Rattle.strips.specs.Sets.{Atoms, nothing, without, clipped, joined, Within, Apart}
 use Rattle.strips.specs.Task.{Action, Task, Sound, Sound-action, no-action, small}
 use Rattle.strips.specs.Soundness.{trimmed, trimmed-action, within-clipped}
 use Rattle.strips.proofs.Members.{same-atoms, clipped-within}
+use Rattle.strips.proofs.Layered.{small-parts}
 use Rattle.bounds.specs.Smalls.{smalls}
 use Rattle.bounds.specs.Orders.{size-of}
 use Rattle.bounds.specs.declared.order.Order.{Order}
@@ -135,9 +136,6 @@ compiled-is-sound o t s a k = record {
   where
     m : ℕ
     m = size-of o
-
-pub small-parts : (t : Task) → small t ≡ true → (t .atoms ≤ 64) × (t .actions ≤ 256)
-small-parts t e = let h = and-parts (leb (t .atoms) 64) (leb (t .actions) 256) e in (leb-true (t .atoms) 64 (h .0), leb-true (t .actions) 256 (h .1))
 
 pub compiled-whole : (o : Order) (t : Task) → Sound t → small t ≡ true → compiled-task (size-of o) t ≡ compiled (size-of o) t
 compiled-whole o t s e =

@@ -1,8 +1,8 @@
 //! The bound over single atoms, on any task, and on the compiled task.
-ghost use Prim.Native.Nat.{_≤_, _<_};
 ghost use mathlib.Core.Path.{_≡_};
-ghost use Rattle.std.specs.Options.{Cases};
-ghost use Rattle.std.specs.Results.{Cases as ByOk};
+ghost use Prim.Native.Nat.{_≤_, _<_};
+ghost use Rattle.std.specs.Options.{Cases as BySome};
+ghost use Rattle.std.specs.Results.{Cases};
 ghost use Rattle.std.specs.declared.option.Option.the-variants.{Some, None};
 ghost use Rattle.bounds.specs.Orders.{bound-denied};
 use crate::Compiled;
@@ -19,7 +19,7 @@ const ROUNDS: usize = 2081;
 
 /// The first atom of a part of a task at or after `from`.
 fn next_atom<T: Task>(task: &T, part: Part, from: usize) -> Option<usize>
-    ensures { λ r. ⌜ Cases r (Unit {0}) (λ p. (from ≤ p) × (p < 2080)) ⌝ }
+    ensures { λ r. ⌜ BySome r (Unit {0}) (λ p. (from ≤ p) × (p < 2080)) ⌝ }
 {
     task.next_of(part, from)
 }
@@ -99,7 +99,7 @@ pub fn compiled_bound<T: Task>(
     task: &T,
     order: usize,
 ) -> Result<Option<u32>, Denial>
-    ensures { λ r. ⌜ ByOk r (λ _. bound-denied (T·Task .meaning (now (task .entry))) order ≡ None) (λ d. bound-denied (T·Task .meaning (now (task .entry))) order ≡ Some d) ⌝ }
+    ensures denied { λ r. ⌜ Cases r (λ _. bound-denied (T·Task .meaning (now (task .entry))) order ≡ None) (λ d. bound-denied (T·Task .meaning (now (task .entry))) order ≡ Some d) ⌝ }
 {
     let compiled = Compiled::new(task, order)?;
     Ok(max_bound(table, &compiled))

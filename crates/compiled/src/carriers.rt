@@ -1,6 +1,6 @@
 //! The compiled task's actions by their numbers.
 ghost use mathlib.Core.Path.{_≡_};
-ghost use Prim.Native.Nat.{_+_, _-_, _≤_, _<_};
+ghost use Prim.Native.Nat.{_≤_, _<_};
 ghost use lib.ListN.{length, getD};
 ghost use Rattle.strips.specs.Sets.{Within};
 ghost use Rattle.strips.specs.Bits.{members};
@@ -15,8 +15,8 @@ use strips::Task;
 /// An action, and the atoms that it takes along.
 #[derive(Clone, Copy)]
 pub(crate) struct Carrier {
-    pub row: Row,
-    pub cargo: AtomSet,
+    pub(crate) row: Row,
+    pub(crate) cargo: AtomSet,
 }
 
 /// How many atoms an action can take along, one at a time.

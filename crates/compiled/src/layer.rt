@@ -6,7 +6,6 @@ ghost use Rattle.bounds.specs.Orders.{size-of, bound-denied};
 ghost use Rattle.compiled.specs.Compiled.{compiled, compiled-task, compiled-sound};
 use crate::carriers::carrier_at;
 use crate::carriers::count_carriers;
-use crate::scopes::is_small;
 use crate::scopes::part_has;
 use crate::scopes::part_next;
 use crate::subsets::subsets;
@@ -14,6 +13,7 @@ use bounds::Order;
 use strips::Denial;
 use strips::Part;
 use strips::Task;
+use strips::is_small;
 
 /// The compiled task of a task of at most 64 atoms and 256 actions. Its atoms stand for the sets of 1 to `order` atoms,
 /// its actions for an action and the atoms that it takes along, at most `order - 1`.

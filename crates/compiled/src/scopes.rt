@@ -16,13 +16,7 @@ use bounds::Order;
 use strips::AtomSet;
 use strips::Part;
 use strips::Task;
-
-/// Whether a task has few enough atoms and actions to be compiled.
-pub(crate) fn is_small<T: Task>(task: &T) -> bool
-    ensures { λ r. ⌜ r ≡ small (T·Task .meaning (now (task .entry))) ⌝ }
-{
-    task.atoms() <= 64 && task.actions() <= 256
-}
+use strips::is_small;
 
 /// The sets inside a set.
 fn inside(set: AtomSet) -> Scope

@@ -14,8 +14,8 @@ use strips::AtomSet;
 /// The sets that have an atom of the core, and none outside of core and rim.
 #[derive(Clone, Copy)]
 pub(crate) struct Scope {
-    pub core: AtomSet,
-    pub rim: AtomSet,
+    pub(crate) core: AtomSet,
+    pub(crate) rim: AtomSet,
 }
 
 /// How many sets there are of 1 to `order` atoms.

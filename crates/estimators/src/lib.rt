@@ -10,6 +10,7 @@ use strips::ErrandTask;
 use strips::LentTask;
 use strips::Part;
 use strips::Task;
+use strips::is_small;
 
 /// Estimates what the goal of a task costs at least from a state: a cost, or none where it cannot be reached.
 pub trait Estimator {
@@ -18,10 +19,11 @@ pub trait Estimator {
 
 /// Refuses a task of more than 64 atoms or 256 actions.
 fn sized<T: Task>(task: &T) -> Result<(), Denial> {
-    if task.atoms() > 64 || task.actions() > 256 {
-        return Err(Denial::TaskOutOfRange);
+    if is_small(task) {
+        Ok(())
+    } else {
+        Err(Denial::TaskOutOfRange)
     }
-    Ok(())
 }
 
 /// Refuses such a task, and then sets of another size than 1 or 2.

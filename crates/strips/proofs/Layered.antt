@@ -6,9 +6,9 @@ use Prim.Native.Nat.{ℕ, _≤_, _<_}
 use native.Mathlib.Omega.{arith}
 use lib.Dec.{leb}
 use lib.ListN.{getD, replicate, getD-replicate, length-replicate}
-use borrow.Author.Tests.{le-leb, ltb-true, lt-ltb}
+use borrow.Author.Tests.{le-leb, leb-true, ltb-true, lt-ltb}
 use Rattle.std.proofs.shelf.Lists.{getD-past}
-use Rattle.std.proofs.shelf.Tests.{and-from, cases-lt, cases-bool}
+use Rattle.std.proofs.shelf.Tests.{and-from, and-parts, cases-lt, cases-bool}
 use Rattle.std.specs.declared.option.Option.the-variants.{Some, None}
 use Rattle.strips.specs.Sets.{Atoms, nothing, clipped, first, inside, Within}
 use Rattle.strips.specs.Task.{Action, Task, small}
@@ -21,6 +21,9 @@ use Rattle.strips.proofs.Members.{clipped-within, bits-none}
 
 pub is-small : (t : Task) → t .atoms ≤ 64 → t .actions ≤ 256 → small t ≡ true
 is-small t a b = and-from (leb (t .atoms) 64) (leb (t .actions) 256) (le-leb (t .atoms) 64 a) (le-leb (t .actions) 256 b)
+
+pub small-parts : (t : Task) → small t ≡ true → (t .atoms ≤ 64) × (t .actions ≤ 256)
+small-parts t e = let h = and-parts (leb (t .atoms) 64) (leb (t .actions) 256) e in (leb-true (t .atoms) 64 (h .0), leb-true (t .actions) 256 (h .1))
 
 -- what the test for atoms below n says
 pub below-within : (n : ℕ) (A : Atoms) → Within 64 A → true ≡ inside 64 A (first n) → Within n A

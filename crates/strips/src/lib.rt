@@ -26,3 +26,4 @@ pub use row::Row;
 pub use table::RowTable;
 pub use task::LentTask;
 pub use task::Task;
+pub use task::is_small;

@@ -2,7 +2,7 @@
 ghost use mathlib.Core.Path.{_≡_};
 ghost use Prim.Native.Nat.{ℕ, _<_, _≤_};
 ghost use denote.Ref.{now};
-ghost use Rattle.strips.specs.Task.{Task as Meaning, Sound};
+ghost use Rattle.strips.specs.Task.{Task as Meaning, Sound, small};
 ghost use Rattle.strips.specs.Sets.{clipped};
 ghost use Rattle.strips.specs.Bits.{members};
 ghost use Rattle.strips.specs.Parts.{part-of, First-from};
@@ -92,6 +92,13 @@ pub trait Task {
             cost: self.cost(action),
         }
     }
+}
+
+/// Whether a task has at most 64 atoms and 256 actions.
+pub fn is_small<T: Task>(task: &T) -> bool
+    ensures { λ r. ⌜ r ≡ small (T·Task .meaning (now (task .entry))) ⌝ }
+{
+    task.atoms() <= 64 && task.actions() <= 256
 }
 
 /// A task that is lent is a task.

@@ -2,7 +2,7 @@ use mathlib.Core.Path.{sym, ap, subst, _∙_}
 use Rattle.bounds.specs.Orders.{size-of}
 use Rattle.compiled.specs.Compiled.{compiled-task}
 use Rattle.compiled.specs.Decoded.{Scope-is}
-use Rattle.compiled.proofs.Whole.{small-parts}
+use Rattle.strips.proofs.Layered.{small-parts}
 use Rattle.compiled.proofs.Compiling.{action-none, needs-scoped}
 use Rattle.compiled.proofs.scopes.needs_scope.Needs as need
 

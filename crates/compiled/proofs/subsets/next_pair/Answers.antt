@@ -1,14 +1,11 @@
 use mathlib.Core.Path.{_≡_, subst}
 use native.Mathlib.Omega.{arith}
 use native.Mathlib.Numerals.{add-one}
-use lib.Dec.{ltb}
-use borrow.Author.Tests.{ltb-true}
-use Rattle.std.proofs.shelf.Tests.{and-parts}
 use Rattle.strips.specs.Parts.{First-from}
 use Rattle.std.specs.declared.option.Option.the-variants.{Some, None}
 use Rattle.compiled.specs.Decoded.{lows}
 use Rattle.compiled.proofs.Numbering.{tri, tri-le}
-use Rattle.compiled.proofs.Scoped.{None-below, pairs-found, pairs-again, pairs-none}
+use Rattle.compiled.proofs.Scoped.{lows-under, None-below, pairs-found, pairs-again, pairs-none}
 use Rattle.compiled.proofs.subsets.next_pair.Needs as need
 
 pub loop-high-holds : need.loop-high-holds
@@ -19,7 +16,7 @@ pub add-result : need.add-result
 add-result c =
     let i = c .loop-high .inv .0 in
     let t = tri-le (c .loop-high .high) (omega arith) in
-    let l = ltb-true (c .in-Some .low) (c .loop-high .high) (and-parts (ltb (c .in-Some .low) (c .loop-high .high)) _ (c .in-Some .ensures tt .1) .0) in
+    let l = lows-under (c .args .scope) (c .loop-high .high) (c .in-Some .low) (c .in-Some .ensures tt .1) in
     omega arith
 
 pub returns-in-Some : need.returns-in-Some

@@ -1,5 +1,6 @@
 use mathlib.Core.Path.{sym, ap, _∙_}
-use Rattle.compiled.proofs.Whole.{small-parts, compiled-whole}
+use Rattle.strips.proofs.Layered.{small-parts}
+use Rattle.compiled.proofs.Whole.{compiled-whole}
 use Rattle.compiled.proofs.layer.CompiledTask.actions.Needs as need
 
 pub count-carriers-requires : need.count-carriers-requires

@@ -3,7 +3,8 @@ use native.Mathlib.Omega.{arith}
 use lib.ListN.{length}
 use Rattle.bounds.specs.Smalls.{smalls}
 use Rattle.bounds.specs.Orders.{size-of}
-use Rattle.compiled.proofs.Whole.{small-parts, compiled-whole}
+use Rattle.strips.proofs.Layered.{small-parts}
+use Rattle.compiled.proofs.Whole.{compiled-whole}
 use Rattle.compiled.proofs.layer.CompiledTask.atoms.Needs as need
 
 pub subsets-requires : need.subsets-requires

@@ -1,5 +1,5 @@
 use mathlib.Core.Path.{sym, ap}
-use Rattle.compiled.proofs.Whole.{small-parts}
+use Rattle.strips.proofs.Layered.{small-parts}
 use Rattle.compiled.proofs.Compiling.{action-some, action-none}
 use Rattle.compiled.proofs.layer.CompiledTask.cost.Needs as need
 
