@@ -138,25 +138,115 @@ fn lower_subsets(table: &mut CostTable, atoms: usize, order: Order, set: AtomSet
     lowered
 }
 
+/// Raises each atom's cost to that of its pair with `atom`, for the atoms below it.
+fn raise_below(costs: &mut [u32; 64], table: &CostTable, atoms: usize, atom: usize)
+    requires { ⌜ atoms ≤ 64 ⌝ ∗ ⌜ atom < 64 ⌝ }
+{
+    for other in 0..atom {
+        costs[other] = costs[other].max(table.entry(pair_number(atoms, other, atom)));
+    }
+}
+
+/// The same for the atoms above it.
+fn raise_above(costs: &mut [u32; 64], table: &CostTable, atoms: usize, atom: usize)
+    requires { ⌜ atoms ≤ 64 ⌝ ∗ ⌜ atom < 64 ⌝ }
+{
+    for other in atom + 1..atoms {
+        costs[other] = costs[other].max(table.entry(pair_number(atoms, atom, other)));
+    }
+}
+
+/// Raises each atom's cost to its own.
+fn raise_alone(costs: &mut [u32; 64], table: &CostTable, atoms: usize)
+    requires { ⌜ atoms ≤ 64 ⌝ }
+{
+    for atom in 0..atoms {
+        costs[atom] = costs[atom].max(table.entry(atom));
+    }
+}
+
+/// Makes the atoms of a set cost none.
+fn leave_out(costs: &mut [u32; 64], set: AtomSet) {
+    let mut from = 0;
+    while let Some(atom) = next_atom(set, from) {
+        costs[atom] = NONE;
+        from = atom + 1;
+    }
+}
+
+/// For each atom that the action leaves alone, the value of that atom and the needs together; none for the others.
+fn carried_values(table: &CostTable, atoms: usize, row: Row, needed: u32) -> [u32; 64]
+    requires { ⌜ atoms ≤ 64 ⌝ }
+{
+    let mut costs = [needed; 64];
+    raise_alone(&mut costs, table, atoms);
+    let mut from = 0;
+    while let Some(atom) = next_atom(row.needs, from) {
+        raise_below(&mut costs, table, atoms, atom);
+        raise_above(&mut costs, table, atoms, atom);
+        from = atom + 1;
+    }
+    leave_out(&mut costs, row.adds.joined(row.removes));
+    costs
+}
+
+/// Lowers the costs of the pairs of an atom and those below it, and says whether one was above.
+fn lower_below(
+    table: &mut CostTable,
+    atoms: usize,
+    atom: usize,
+    values: &[u32; 64],
+    cost: u32,
+) -> bool
+    requires { ⌜ atoms ≤ 64 ⌝ ∗ ⌜ atom < 64 ⌝ }
+{
+    let mut lowered = false;
+    for other in 0..atom {
+        if table.lower(
+            pair_number(atoms, other, atom),
+            values[other].saturating_add(cost),
+        ) {
+            lowered = true;
+        }
+    }
+    lowered
+}
+
+/// The same for the atoms above it.
+fn lower_above(
+    table: &mut CostTable,
+    atoms: usize,
+    atom: usize,
+    values: &[u32; 64],
+    cost: u32,
+) -> bool
+    requires { ⌜ atoms ≤ 64 ⌝ ∗ ⌜ atom < 64 ⌝ }
+{
+    let mut lowered = false;
+    for other in atom + 1..atoms {
+        if table.lower(
+            pair_number(atoms, atom, other),
+            values[other].saturating_add(cost),
+        ) {
+            lowered = true;
+        }
+    }
+    lowered
+}
+
 /// Lowers the costs of the pairs of an atom that the action adds and one that it leaves alone.
 fn lower_carried(table: &mut CostTable, atoms: usize, row: Row, needed: u32) -> bool
     requires { ⌜ atoms ≤ 64 ⌝ }
 {
-    let touched = row.adds.joined(row.removes);
+    let values = carried_values(table, atoms, row, needed);
+    let cost = u32::from(row.cost);
     let mut lowered = false;
-    for atom in 0..atoms {
-        if !touched.has(atom) {
-            let before = needed.max(atom_value(table, atoms, Order::Two, atom, row.needs));
-            if lower_pairs(
-                table,
-                atoms,
-                atom,
-                row.adds,
-                before.saturating_add(u32::from(row.cost)),
-            ) {
-                lowered = true;
-            }
-        }
+    let mut from = 0;
+    while let Some(atom) = next_atom(row.adds, from) {
+        let below = lower_below(table, atoms, atom, &values, cost);
+        let above = lower_above(table, atoms, atom, &values, cost);
+        lowered = lowered || below || above;
+        from = atom + 1;
     }
     lowered
 }

@@ -12,8 +12,8 @@ use estimators::DirectEstimator;
 use search::Answer;
 use search::Place;
 use search::search;
-use std::alloc::AllocError;
-use std::alloc::Global;
+use std::fmt;
+use std::fmt::Write;
 use strips::Denial;
 use strips::LentTask;
 use strips::RowTable;
@@ -51,47 +51,47 @@ fn plan_line<'a>(task: &RowTable, places: &mut [Place], plan: &'a mut [u16]) -> 
     }
 }
 
-/// The text of a refused file.
-fn refused_text(heap: Global, denial: Denial, place: usize) -> Result<String, AllocError> {
+/// Writes the line of a refused file.
+fn write_refused<W: fmt::Write>(out: &mut W, denial: Denial, place: usize) -> fmt::Result {
     let number = denial as u8;
-    format!(heap, "refused {number} {place}\n")
+    write!(out, "refused {number} {place}\n")
 }
 
-/// The text of a task.
-fn task_text(
-    heap: Global,
+/// Writes the lines of a task.
+fn write_task<W: fmt::Write>(
+    out: &mut W,
     task: &RowTable,
     places: &mut [Place],
     plan: &mut [u16],
-) -> Result<String, AllocError> {
+) -> fmt::Result {
     let single = match bound_line(task, 1) {
         Ok(line) => line,
-        Err(denial) => return refused_text(heap, denial, 0),
+        Err(denial) => return write_refused(out, denial, 0),
     };
     let pair = match bound_line(task, 2) {
         Ok(line) => line,
-        Err(denial) => return refused_text(heap, denial, 0),
+        Err(denial) => return write_refused(out, denial, 0),
     };
     let atoms = task.atoms();
     let actions = task.actions();
     let found = plan_line(task, places, plan);
-    format!(heap, "task {atoms} {actions}\n{single}\n{pair}\n{found}\n")
+    write!(out, "task {atoms} {actions}\n{single}\n{pair}\n{found}\n")
 }
 
-/// The listing of a task file. The search has the places of the lent table, and the plan the lent buffer.
-pub fn listing(
-    heap: Global,
+/// Writes the listing of a task file. The search has the places of the lent table, and the plan the lent buffer.
+pub fn listing<W: fmt::Write>(
+    out: &mut W,
     bytes: &[u8],
     places: &mut [Place],
     plan: &mut [u16],
-) -> Result<String, AllocError> {
+) -> fmt::Result {
     let view = match FileView::open(bytes) {
         Ok(view) => view,
-        Err(fault) => return refused_text(heap, fault.denial, fault.place),
+        Err(fault) => return write_refused(out, fault.denial, fault.place),
     };
     let mut rows = RowTable::new();
     match rows.copy_from(&view) {
-        Ok(()) => task_text(heap, &rows, places, plan),
-        Err(denial) => refused_text(heap, denial, 0),
+        Ok(()) => write_task(out, &rows, places, plan),
+        Err(denial) => write_refused(out, denial, 0),
     }
 }

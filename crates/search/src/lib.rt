@@ -87,6 +87,9 @@ fn turns<E: Estimator>(
 {
     let goal = task.set_of(Part::Goal);
     let actions = task.actions();
+    // the places' states once more, side by side, since the look-up passes over many
+    let mut states = [AtomSet::EMPTY; MOST_PLACES];
+    states[0] = places[0].state;
     let mut used = 1;
     // a turn closes a place for good, so there are no more turns than places, and one that ends the search
     'turns: for _ in 0..=room {
@@ -110,7 +113,7 @@ fn turns<E: Estimator>(
             let paid = from.paid.saturating_add(row.cost as u32);
             let mut j = 0;
             let place = loop {
-                if j == used || places[j].state == state {
+                if j == used || states[j] == state {
                     break j;
                 }
                 j += 1;
@@ -135,6 +138,7 @@ fn turns<E: Estimator>(
                 action: action as u16,
                 open: true,
             };
+            states[used] = state;
             used += 1;
         }
     }

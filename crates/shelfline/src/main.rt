@@ -30,8 +30,9 @@ fn run(rt: &LibcRuntime) -> Result<(), AnyError> {
     let bytes = input(rt)?;
     let mut places = vec![in rt.alloc(); Place::EMPTY; PLACES]?;
     let mut plan = vec![in rt.alloc(); 0u16; PLACES]?;
-    let text = listing(
-        rt.alloc(),
+    let mut text = String::new(rt.alloc());
+    listing(
+        &mut text,
         bytes.as_slice(),
         places.as_mut_slice(),
         plan.as_mut_slice(),

@@ -49,8 +49,9 @@ fn run(rt: &LibcRuntime) -> Result<(), AnyError> {
         let Some(packed) = unpack(rest) else {
             break;
         };
-        let text = listing(
-            heap,
+        let mut text = String::new(heap);
+        listing(
+            &mut text,
             packed.file,
             places.as_mut_slice(),
             plan.as_mut_slice(),
