@@ -20,12 +20,9 @@ without A B p = A p && not (B p)
 abbrev pub first : ℕ → Atoms
 first n p = ltb p n
 
--- A, with the atom x put in, and with it taken out
+-- A, with the atom x put in
 abbrev pub plus : ℕ → Atoms → Atoms
 plus x A p = eqb p x || A p
-
-abbrev pub minus : ℕ → Atoms → Atoms
-minus x A p = not (eqb p x) && A p
 
 -- the atoms of A that are below n
 abbrev pub clipped : ℕ → Atoms → Atoms
