@@ -75,7 +75,7 @@ def renamings(root):
         text = read(path)
         names.update(declared(text))
         standing.update(tokens(text))
-    new = {it: respelled(it) for it in names if "-" in it.strip("-")}
+    new = {it: respelled(it) for it in names if "-" in it.strip("-") and it not in APART.values()}
     apart = {}
     for old in sorted(new):
         if old not in SHARED and new[old] in standing or list(new.values()).count(new[old]) > 1:

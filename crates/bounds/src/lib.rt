@@ -1,4 +1,6 @@
 //! Lower bounds on the cost of plans.
+#![tactic(auto)]
+
 mod direct;
 mod max;
 mod order;

@@ -1,4 +1,6 @@
 //! The worked examples of the documents, as tests.
+#![tactic(auto)]
+
 use strips::{AtomSet, Row, RowTable};
 
 /// A row of sets that are given by their bits.

@@ -1,4 +1,6 @@
 //! The compiled task, whose atoms stand for small sets of a task's atoms, and the bound over single atoms on it.
+#![tactic(auto)]
+
 mod bound;
 mod carriers;
 mod layer;

@@ -1,4 +1,6 @@
 //! The planner for controllers in C: include/shelfline.h says what each call does.
+#![tactic(auto)]
+
 mod text;
 
 use bounds::{CostTable, direct_bound};

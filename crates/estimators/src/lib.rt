@@ -1,4 +1,6 @@
 //! What a search asks about the cost that is still to come.
+#![tactic(auto)]
+
 use bounds::{CostTable, Order, direct_bound};
 use compiled::compiled_bound;
 use strips::{AtomSet, Denial, Errand, Part, Task, is_small};

@@ -1,4 +1,6 @@
 //! The heuristics h^m and h^max on P^m: their definitions, and what is proved of them. Each function names a theorem.
+#![tactic(auto)]
+
 ghost use Rattle.heuristics.specs.Smalls.{Closed};
 ghost use Rattle.heuristics.specs.Theorems.{AddedScale, RoundsEnd, OneBound, FiniteEntries, AnyTop, Agreement, ZeroAtGoal, Consistency, Admissible, BoundsEstimate, CarriersStand};
 

@@ -1,4 +1,6 @@
 //! The lines that tell what a task asks and what its errand costs.
+#![tactic(auto)]
+
 mod lines;
 mod rounding;
 mod telling;

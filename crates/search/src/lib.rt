@@ -1,4 +1,6 @@
 //! A* over the states of a task, in a lent table.
+#![tactic(auto)]
+
 ghost use Rattle.std.specs.Prelude.{ℕ, ◌<◌, ◌≤◌, length, IfSome, IfOk};
 ghost use Rattle.search.specs.Ending.{EndsIn};
 

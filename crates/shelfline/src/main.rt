@@ -1,4 +1,6 @@
 //! Reads a task file from standard input and prints its listing.
+#![tactic(auto)]
+
 use listing::listing;
 use search::Place;
 use std::io::Read;

@@ -1,4 +1,6 @@
 //! Planning tasks over atoms: sets of atoms, the task interface, and the tasks and layers at its bottom.
+#![tactic(auto)]
+
 mod answering;
 mod atoms;
 mod closures;

@@ -1,4 +1,6 @@
 //! Task files, read and written.
+#![tactic(auto)]
+
 mod fault;
 mod fields;
 mod header;

@@ -1,5 +1,7 @@
 //! Prints the listings of many task files, which are packed into standard input one after another: the length of a name in
 //! one byte, the name, the length of a file in two bytes, the high byte first, and the file.
+#![tactic(auto)]
+
 use listing::listing;
 use search::Place;
 use std::io::{Read, Write};

@@ -13,4 +13,4 @@ loop-atom-preserved c = (
 )
 
 pub returns : goal.returns
-returns c = entered_all c.args.block.now c.loop-atom.block (members c.args.needs) (members c.loop-atom.rest) c.args.action c.in-default.ensures c.loop-atom.invariant.1
+returns c = entered_all c.args.block.now c.loop-atom.block (members c.args.needs) (members c.loop-atom.rest) c.args.action c.in_default.ensures c.loop-atom.invariant.1

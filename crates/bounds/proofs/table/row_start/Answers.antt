@@ -5,13 +5,13 @@ use Rattle.bounds.proofs.table.row_start.Goals as goal
 low : (h x : ℕ) → h < 64 → x ≡ h - 1 → h * x ≤ 63 * 62
 low h x l e = mul-le-mul {n₁ = h} {m₁ = x} {n₂ = 63} {m₂ = 62} (omega arith) (omega arith)
 
-pub overflow-mul-result : goal.overflow-mul-result
-overflow-mul-result c = let l = low c.args.high c.saturating-sub.result c.requires.1 c.saturating-sub.ensures in omega arith
+pub overflow_mul-result : goal.overflow_mul-result
+overflow_mul-result c = let l = low c.args.high c.saturating_sub.result c.requires.1 c.saturating_sub.ensures in omega arith
 
-pub overflow-add-result : goal.overflow-add-result
-overflow-add-result c = let l = low c.args.high c.saturating-sub.result c.requires.1 c.saturating-sub.ensures in omega arith
+pub overflow_add-result : goal.overflow_add-result
+overflow_add-result c = let l = low c.args.high c.saturating_sub.result c.requires.1 c.saturating_sub.ensures in omega arith
 
 pub returns : goal.returns
 returns c =
-    let l = low c.args.high c.saturating-sub.result c.requires.1 c.saturating-sub.ensures in
-    record { is = ap (λ x. c.args.atoms + c.args.high * x / 2) c.saturating-sub.ensures; room = omega arith }
+    let l = low c.args.high c.saturating_sub.result c.requires.1 c.saturating_sub.ensures in
+    record { is = ap (λ x. c.args.atoms + c.args.high * x / 2) c.saturating_sub.ensures; room = omega arith }

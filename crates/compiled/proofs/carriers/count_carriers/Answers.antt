@@ -28,11 +28,11 @@ few g c =
     let f = extras_few c.args.order c.atoms-atoms.result (members c.joined.result) in
     (omega arith, omega arith)
 
-pub overflow-add-total : goal.overflow-add-total
-overflow-add-total g c = let f = few g c in omega arith
+pub overflow_add-total : goal.overflow_add-total
+overflow_add-total g c = let f = few g c in omega arith
 
-pub overflow-add-total-in-loop-action : goal.overflow-add-total-in-loop-action
-overflow-add-total-in-loop-action g c = let f = few g c in let i = c.loop-action.invariant in omega arith
+pub overflow_add-total-in-loop-action : goal.overflow_add-total-in-loop-action
+overflow_add-total-in-loop-action g c = let f = few g c in let i = c.loop-action.invariant in omega arith
 
 pub loop-action-preserved : goal.loop-action-preserved
 loop-action-preserved g c =

@@ -9,14 +9,14 @@ use Rattle.compiled.proofs.scopes.needs_scope.Goals as goal
 pub carrier-at-requires : goal.carrier-at-requires
 carrier-at-requires g c = (small_parts (g.T.Task.meaning c.args.task.now) c.requires).0
 
-pub returns-in-err-carrier : goal.returns-in-err-carrier
-returns-in-err-carrier g c =
+pub returns-in_err-carrier : goal.returns-in_err-carrier
+returns-in_err-carrier g c =
     let t = g.T.Task.meaning c.args.task.now in
     let m = size_of c.args.order in
-    subst (ScopeIs m t ((compiled_task m t).action c.args.action).needs) (sym c.from-residual.ensures)
-    (ap (λ b. b.needs) (action_none c.args.order t (g.T.Task.sound c.args.task.now) c.requires c.args.action c.in-err-carrier.ensures))
+    subst (ScopeIs m t ((compiled_task m t).action c.args.action).needs) (sym c.from_residual.ensures)
+    (ap (λ b. b.needs) (action_none c.args.order t (g.T.Task.sound c.args.task.now) c.requires c.args.action c.in_err-carrier.ensures))
 
 pub returns : goal.returns
 returns g c =
-    needs_scoped c.args.order (g.T.Task.meaning c.args.task.now) (g.T.Task.sound c.args.task.now) c.requires c.args.action c.in-ok-carrier.carrier c.inside.result
-    c.in-ok-carrier.ensures (c.inside.ensures.core ∙ c.joined.ensures) c.inside.ensures.rim
+    needs_scoped c.args.order (g.T.Task.meaning c.args.task.now) (g.T.Task.sound c.args.task.now) c.requires c.args.action c.in_ok-carrier.carrier c.inside.result
+    c.in_ok-carrier.ensures (c.inside.ensures.core ∙ c.joined.ensures) c.inside.ensures.rim

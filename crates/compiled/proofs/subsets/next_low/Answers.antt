@@ -9,12 +9,12 @@ returns-then-not-has c = λ p h. lows_off c.args.scope c.args.high p (sym (c.if-
 
 pub returns-then-has : goal.returns-then-has
 returns-then-has c =
-    subst (λ A. FirstFrom A c.args.from c.next-below.result)
+    subst (λ A. FirstFrom A c.args.from c.next_below.result)
     (ap (clipped c.args.high) c.joined-all.ensures ∙ lows_all c.args.scope c.args.high (sym (c.if-not-has.ensures ∙ ap (λ A. A c.args.high) c.joined-all.ensures)) (sym c.if-has.ensures))
-    c.next-below.ensures
+    c.next_below.ensures
 
 pub returns-else-has : goal.returns-else-has
 returns-else-has c =
-    subst (λ A. FirstFrom A c.args.from c.next-below-else-has.result)
+    subst (λ A. FirstFrom A c.args.from c.next_below-else-has.result)
     (lows_core c.args.scope c.args.high (sym (c.if-not-has.ensures ∙ ap (λ A. A c.args.high) c.joined-all.ensures)) (sym c.if-has.ensures))
-    c.next-below-else-has.ensures
+    c.next_below-else-has.ensures

@@ -9,8 +9,8 @@ pub loop-high-init : goal.loop-high-init
 unfolding tri
 loop-high-init c = (omega arith, λ i j h k g. let z : ⊥ = omega arith in absurd z)
 
-pub overflow-add-result : goal.overflow-add-result
-overflow-add-result c =
+pub overflow_add-result : goal.overflow_add-result
+overflow_add-result c =
     let i = c.loop-high.invariant.0 in
     let t = tri_le c.loop-high.high (omega arith) in
     let l = lows_under c.args.scope c.loop-high.high c.in-Some.low c.in-Some.ensures.1 in
@@ -19,10 +19,10 @@ overflow-add-result c =
 pub returns-in-Some : goal.returns-in-Some
 returns-in-Some c =
     pairs_found c.args.atoms c.args.from c.loop-high.base c.loop-high.high c.in-Some.low c.args.scope c.loop-high.invariant.0 c.loop-high-test.true c.loop-high.invariant.1
-    (subst (λ z. FirstFrom (lows c.args.scope c.loop-high.high) z (Some c.in-Some.low)) c.saturating-sub.ensures c.in-Some.ensures)
+    (subst (λ z. FirstFrom (lows c.args.scope c.loop-high.high) z (Some c.in-Some.low)) c.saturating_sub.ensures c.in-Some.ensures)
 
-pub overflow-add-base : goal.overflow-add-base
-overflow-add-base c =
+pub overflow_add-base : goal.overflow_add-base
+overflow_add-base c =
     let i = c.loop-high.invariant.0 in
     let t = tri_le c.loop-high.high (omega arith) in
     omega arith
@@ -33,7 +33,7 @@ loop-high-preserved c =
     let i = c.loop-high.invariant.0 in (
       rw (add-one c.loop-high.high) (omega arith),
       pairs_again c.args.atoms c.args.from c.loop-high.base c.loop-high.high c.args.scope i c.loop-high.invariant.1
-          (subst (λ z. FirstFrom (lows c.args.scope c.loop-high.high) z None) c.saturating-sub.ensures c.in-default.ensures),
+          (subst (λ z. FirstFrom (lows c.args.scope c.loop-high.high) z None) c.saturating_sub.ensures c.in_default.ensures),
     )
 
 pub returns : goal.returns

@@ -11,9 +11,9 @@ returns-in-Some c = atom_found c.args.order c.args.atoms c.args.from c.in-Some.a
 pub returns-in-One : goal.returns-in-One
 returns-in-One c =
     subst (λ o. FirstFrom (scoped c.args.atoms (size_of o) c.args.scope) c.args.from None) (sym c.in-One.is)
-    (no_more c.args.atoms c.args.from c.args.scope c.in-default.ensures)
+    (no_more c.args.atoms c.args.from c.args.scope c.in_default.ensures)
 
 pub returns-in-Two : goal.returns-in-Two
 returns-in-Two c =
-    subst (λ o. FirstFrom (scoped c.args.atoms (size_of o) c.args.scope) c.args.from c.next-pair.result) (sym c.in-Two.is)
-    (then_pairs c.args.atoms c.args.from c.args.scope c.next-pair.result c.in-default.ensures c.next-pair.ensures)
+    subst (λ o. FirstFrom (scoped c.args.atoms (size_of o) c.args.scope) c.args.from c.next_pair.result) (sym c.in-Two.is)
+    (then_pairs c.args.atoms c.args.from c.args.scope c.next_pair.result c.in_default.ensures c.next_pair.ensures)

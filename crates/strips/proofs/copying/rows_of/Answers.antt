@@ -8,8 +8,8 @@ use Rattle.strips.proofs.copying.rows_of.Goals as goal
 pub loop-action-init : goal.loop-action-init
 loop-action-init g c = (
   λ a h. let z : ⊥ = omega arith in absurd z,
-  λ a h. ap (λ (rows : List Row). get_or rows a no_row) c.empty-rows-rows.ensures ∙ empty_rows a,
-  ap (λ (rows : List Row). length rows) c.empty-rows-rows.ensures ∙ length-replicate 256 no_row,
+  λ a h. ap (λ (rows : List Row). get_or rows a no_row) c.empty_rows-rows.ensures ∙ empty_rows a,
+  ap (λ (rows : List Row). length rows) c.empty_rows-rows.ensures ∙ length-replicate 256 no_row,
 )
 
 pub loop-action-preserved : goal.loop-action-preserved

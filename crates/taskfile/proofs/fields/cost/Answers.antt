@@ -4,8 +4,8 @@ use Rattle.taskfile.specs.Reading.{cost_denied}
 use Rattle.taskfile.proofs.Field.{field_ends, field_denied, field_right, length_rest, optional_here}
 use Rattle.taskfile.proofs.fields.cost.Goals as goal
 
-pub returns-in-default : goal.returns-in-default
-returns-in-default c = record { reads = optional_here _ _ _ _ c.if-not-present.false ∙ field_ends 2 cost_denied _ _ _ c.in-default.ensures; within = tt }
+pub returns-in_default : goal.returns-in_default
+returns-in_default c = record { reads = optional_here _ _ _ _ c.if-not-present.false ∙ field_ends 2 cost_denied _ _ _ c.in_default.ensures; within = tt }
 
 pub returns-then-cost-eq-COST : goal.returns-then-cost-eq-COST
 returns-then-cost-eq-COST c =

@@ -3,8 +3,8 @@ use Rattle.taskfile.specs.Reading.{map_denied}
 use Rattle.taskfile.proofs.Field.{field_ends, field_denied, field_right, length_rest}
 use Rattle.taskfile.proofs.fields.map.Goals as goal
 
-pub returns-in-default : goal.returns-in-default
-returns-in-default c = record { reads = field_ends 1 (map_denied 4) _ _ _ c.in-default.ensures; within = tt }
+pub returns-in_default : goal.returns-in_default
+returns-in_default c = record { reads = field_ends 1 (map_denied 4) _ _ _ c.in_default.ensures; within = tt }
 
 pub returns-then-map-ge-MAPS : goal.returns-then-map-ge-MAPS
 returns-then-map-ge-MAPS c =

@@ -17,7 +17,7 @@ returns-then-map-ge-MAPS c = record { reads = at_map c.args.bytes.now (search ru
 
 pub returns : goal.returns
 returns c = record {
-  reads = at_right c.args.bytes.now c.action-count-actions.result _ (search rules) (search rules) (search rules) c.action-count-actions.ensures (search rules) (search rules) (take_rest c.args.bytes.now 5);
+  reads = at_right c.args.bytes.now c.action_count-actions.result _ (search rules) (search rules) (search rules) c.action_count-actions.ensures (search rules) (search rules) (take_rest c.args.bytes.now 5);
   within = search rules;
   few = c.if-actions-gt-ACTIONS.false;
 }

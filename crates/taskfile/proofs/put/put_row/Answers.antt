@@ -9,23 +9,23 @@ use Rattle.taskfile.proofs.put.put_row.Goals as goal
 pub bounds-out-at : goal.bounds-out-at
 bounds-out-at c = omega (arith, length_entry (entry_of (row_action c.args.row)), c.requires)
 
-pub put-set-at-requires : goal.put-set-at-requires
-put-set-at-requires c = simp length-set (omega (arith, length_entry (entry_of (row_action c.args.row)), c.requires))
+pub put_set-at-requires : goal.put_set-at-requires
+put_set-at-requires c = simp length-set (omega (arith, length_entry (entry_of (row_action c.args.row)), c.requires))
 
-pub put-set-at-requires-2 : goal.put-set-at-requires-2
-put-set-at-requires-2 c = omega (arith, length_entry (entry_of (row_action c.args.row)), c.requires, length-set c.args.out.now c.args.at c.row-map-of.result)
+pub put_set-at-requires-2 : goal.put_set-at-requires-2
+put_set-at-requires-2 c = omega (arith, length_entry (entry_of (row_action c.args.row)), c.requires, length-set c.args.out.now c.args.at c.row_map_of.result)
 
-pub put-set-at-requires-3 : goal.put-set-at-requires-3
-put-set-at-requires-3 c = omega (arith, length_entry (entry_of (row_action c.args.row)), c.requires, length-set c.args.out.now c.args.at c.row-map-of.result)
+pub put_set-at-requires-3 : goal.put_set-at-requires-3
+put_set-at-requires-3 c = omega (arith, length_entry (entry_of (row_action c.args.row)), c.requires, length-set c.args.out.now c.args.at c.row_map_of.result)
 
-pub put-cost-requires : goal.put-cost-requires
-put-cost-requires c = omega (arith, length_entry (entry_of (row_action c.args.row)), c.requires, length-set c.args.out.now c.args.at c.row-map-of.result)
+pub put_cost-requires : goal.put_cost-requires
+put_cost-requires c = omega (arith, length_entry (entry_of (row_action c.args.row)), c.requires, length-set c.args.out.now c.args.at c.row_map_of.result)
 
 pub returns : goal.returns
 returns c = record {
   bytes = entry_written c.args.out.now c.args.at (entry_of (row_action c.args.row)) _ _ _ _ _ _ _ c.requires
-      (c.put-set-at.ensures.bytes ∙ ap (λ x. written (set c.args.out.now c.args.at x) (c.args.at + 1) (unless 0 8 (entry_of (row_action c.args.row)).needs)) c.row-map-of.ensures) c.put-set-at.ensures.after
-      c.put-set-at-2.ensures.bytes c.put-set-at-2.ensures.after
-      c.put-set-at-3.ensures.bytes c.put-set-at-3.ensures.after c.put-cost.ensures.bytes;
+      (c.put_set-at.ensures.bytes ∙ ap (λ x. written (set c.args.out.now c.args.at x) (c.args.at + 1) (unless 0 8 (entry_of (row_action c.args.row)).needs)) c.row_map_of.ensures) c.put_set-at.ensures.after
+      c.put_set-at-2.ensures.bytes c.put_set-at-2.ensures.after
+      c.put_set-at-3.ensures.bytes c.put_set-at-3.ensures.after c.put_cost.ensures.bytes;
   after = omega (arith, length_entry (entry_of (row_action c.args.row)));
 }

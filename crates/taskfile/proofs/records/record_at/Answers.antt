@@ -6,71 +6,71 @@ use Rattle.taskfile.proofs.Strict.{entry_inv}
 use Rattle.taskfile.proofs.Chain.{entry_map_err, entry_needs_err, entry_adds_err, entry_removes_err, entry_cost_err, entry_read}
 use Rattle.taskfile.proofs.records.record_at.Goals as goal
 
-pub returns-in-err-fields : goal.returns-in-err-fields
-returns-in-err-fields c =
-    let p = err_from_is_err_and c.from-residual.result c.from-residual.ensures.1 in
-    rw (p.1, p.2) (record { reads = entry_map_err _ _ _ _ c.in-err-fields.ensures.reads; within = tt; sound = tt })
+pub returns-in_err-fields : goal.returns-in_err-fields
+returns-in_err-fields c =
+    let p = err_from_is_err_and c.from_residual.result c.from_residual.ensures.1 in
+    rw (p.1, p.2) (record { reads = entry_map_err _ _ _ _ c.in_err-fields.ensures.reads; within = tt; sound = tt })
 
-pub returns-in-err-needs : goal.returns-in-err-needs
-returns-in-err-needs c =
-    let p = err_from_is_err_and c.from-residual-in-err-needs.result c.from-residual-in-err-needs.ensures.1 in
+pub returns-in_err-needs : goal.returns-in_err-needs
+returns-in_err-needs c =
+    let p = err_from_is_err_and c.from_residual-in_err-needs.result c.from_residual-in_err-needs.ensures.1 in
     rw (p.1, p.2) (record {
-      reads = entry_needs_err _ _ _ _ _ _ c.in-ok-fields.ensures.reads _ c.brings.ensures c.in-err-needs.ensures.reads;
+      reads = entry_needs_err _ _ _ _ _ _ c.in_ok-fields.ensures.reads _ c.brings.ensures c.in_err-needs.ensures.reads;
       within = tt;
       sound = tt;
     })
 
-pub returns-in-err-adds : goal.returns-in-err-adds
-returns-in-err-adds c =
-    let p = err_from_is_err_and c.from-residual-in-err-adds.result c.from-residual-in-err-adds.ensures.1 in
+pub returns-in_err-adds : goal.returns-in_err-adds
+returns-in_err-adds c =
+    let p = err_from_is_err_and c.from_residual-in_err-adds.result c.from_residual-in_err-adds.ensures.1 in
     rw (p.1, p.2) (record {
-      reads = entry_adds_err _ _ _ _ _ _ c.in-ok-fields.ensures.reads
-          _ _ _ c.brings.ensures c.in-ok-needs.ensures.reads _ c.brings-2.ensures c.in-err-adds.ensures.reads;
+      reads = entry_adds_err _ _ _ _ _ _ c.in_ok-fields.ensures.reads
+          _ _ _ c.brings.ensures c.in_ok-needs.ensures.reads _ c.brings-2.ensures c.in_err-adds.ensures.reads;
       within = tt;
       sound = tt;
     })
 
-pub returns-in-err-removes : goal.returns-in-err-removes
-returns-in-err-removes c =
-    let p = err_from_is_err_and c.from-residual-in-err-removes.result c.from-residual-in-err-removes.ensures.1 in
+pub returns-in_err-removes : goal.returns-in_err-removes
+returns-in_err-removes c =
+    let p = err_from_is_err_and c.from_residual-in_err-removes.result c.from_residual-in_err-removes.ensures.1 in
     rw (p.1, p.2) (record {
-      reads = entry_removes_err _ _ _ _ _ _ c.in-ok-fields.ensures.reads
-          _ _ _ c.brings.ensures c.in-ok-needs.ensures.reads
-          _ _ _ c.brings-2.ensures c.in-ok-adds.ensures.reads _ c.brings-3.ensures c.in-err-removes.ensures.reads;
+      reads = entry_removes_err _ _ _ _ _ _ c.in_ok-fields.ensures.reads
+          _ _ _ c.brings.ensures c.in_ok-needs.ensures.reads
+          _ _ _ c.brings-2.ensures c.in_ok-adds.ensures.reads _ c.brings-3.ensures c.in_err-removes.ensures.reads;
       within = tt;
       sound = tt;
     })
 
-pub returns-in-err-cost : goal.returns-in-err-cost
-returns-in-err-cost c =
-    let p = err_from_is_err_and c.from-residual-in-err-cost.result c.from-residual-in-err-cost.ensures.1 in
+pub returns-in_err-cost : goal.returns-in_err-cost
+returns-in_err-cost c =
+    let p = err_from_is_err_and c.from_residual-in_err-cost.result c.from_residual-in_err-cost.ensures.1 in
     rw (p.1, p.2) (record {
-      reads = entry_cost_err _ _ _ _ _ _ c.in-ok-fields.ensures.reads
-          _ _ _ c.brings.ensures c.in-ok-needs.ensures.reads
-          _ _ _ c.brings-2.ensures c.in-ok-adds.ensures.reads
-          _ _ _ c.brings-3.ensures c.in-ok-removes.ensures.reads _ c.brings-4.ensures c.in-err-cost.ensures.reads;
+      reads = entry_cost_err _ _ _ _ _ _ c.in_ok-fields.ensures.reads
+          _ _ _ c.brings.ensures c.in_ok-needs.ensures.reads
+          _ _ _ c.brings-2.ensures c.in_ok-adds.ensures.reads
+          _ _ _ c.brings-3.ensures c.in_ok-removes.ensures.reads _ c.brings-4.ensures c.in_err-cost.ensures.reads;
       within = tt;
       sound = tt;
     })
 
 pub returns-then-meets : goal.returns-then-meets
 returns-then-meets c = record {
-  reads = entry_read _ _ _ _ _ _ c.in-ok-fields.ensures.reads
-      _ _ _ c.brings.ensures c.in-ok-needs.ensures.reads
-      _ _ _ c.brings-2.ensures c.in-ok-adds.ensures.reads
-      _ _ _ c.brings-3.ensures c.in-ok-removes.ensures.reads
-      _ _ _ c.brings-4.ensures c.in-ok-cost.ensures.reads
-      ∙ cond-false _ _ _ (not-true _ (meets_number _ _ (within_members c.in-ok-adds.adds) (within_members c.in-ok-removes.removes) ∙ sym c.if-meets.ensures));
+  reads = entry_read _ _ _ _ _ _ c.in_ok-fields.ensures.reads
+      _ _ _ c.brings.ensures c.in_ok-needs.ensures.reads
+      _ _ _ c.brings-2.ensures c.in_ok-adds.ensures.reads
+      _ _ _ c.brings-3.ensures c.in_ok-removes.ensures.reads
+      _ _ _ c.brings-4.ensures c.in_ok-cost.ensures.reads
+      ∙ cond-false _ _ _ (not-true _ (meets_number _ _ (within_members c.in_ok-adds.adds) (within_members c.in_ok-removes.removes) ∙ sym c.if-meets.ensures));
   within = tt;
   sound = tt;
 }
 
 pub returns : goal.returns
 returns c =
-    let e = entry_read _ _ _ _ _ _ c.in-ok-fields.ensures.reads
-    _ _ _ c.brings.ensures c.in-ok-needs.ensures.reads
-    _ _ _ c.brings-2.ensures c.in-ok-adds.ensures.reads
-    _ _ _ c.brings-3.ensures c.in-ok-removes.ensures.reads
-    _ _ _ c.brings-4.ensures c.in-ok-cost.ensures.reads
-    ∙ cond-true _ _ _ (not-false _ (meets_number _ _ (within_members c.in-ok-adds.adds) (within_members c.in-ok-removes.removes) ∙ sym c.if-meets.ensures)) in
-    record { reads = e; within = c.in-ok-cost.ensures.within; sound = sound_row _ _ (entry_inv _ _ _ _ _ _ (λ i. (c.type-inv.bytes i).fits) e).well }
+    let e = entry_read _ _ _ _ _ _ c.in_ok-fields.ensures.reads
+    _ _ _ c.brings.ensures c.in_ok-needs.ensures.reads
+    _ _ _ c.brings-2.ensures c.in_ok-adds.ensures.reads
+    _ _ _ c.brings-3.ensures c.in_ok-removes.ensures.reads
+    _ _ _ c.brings-4.ensures c.in_ok-cost.ensures.reads
+    ∙ cond-true _ _ _ (not-false _ (meets_number _ _ (within_members c.in_ok-adds.adds) (within_members c.in_ok-removes.removes) ∙ sym c.if-meets.ensures)) in
+    record { reads = e; within = c.in_ok-cost.ensures.within; sound = sound_row _ _ (entry_inv _ _ _ _ _ _ (λ i. (c.type_inv.bytes i).fits) e).well }

@@ -10,6 +10,6 @@ returns c =
     let enough : 8 ≤ length c.args.bytes.now = search rules in
     record {
       enough = enough;
-      number = value_eight c.args.bytes.now enough ∙ (sym c.from-be-bytes-bits.ensures ∙ (bits_number c.from-be-bytes-bits.result (omega arith) ∙ ap (number 64) (sym c.from-bits.ensures)));
+      number = value_eight c.args.bytes.now enough ∙ (sym c.from_be_bytes-bits.ensures ∙ (bits_number c.from_be_bytes-bits.result (omega arith) ∙ ap (number 64) (sym c.from_bits.ensures)));
       follows = take_rest c.args.bytes.now 8;
     }

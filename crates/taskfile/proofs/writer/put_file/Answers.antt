@@ -16,8 +16,8 @@ bounds-out-1 g c =
     let t = g.T.Task.meaning c.args.task.now in
     simp length-set (omega (arith, length_file (content_of t), c.requires.room))
 
-pub put-two-requires : goal.put-two-requires
-put-two-requires g c =
+pub put_two-requires : goal.put_two-requires
+put_two-requires g c =
     let t = g.T.Task.meaning c.args.task.now in
     simp length-set (omega (arith, length_file (content_of t), c.requires.room))
 
@@ -26,35 +26,35 @@ bounds-out-4 g c =
     let t = g.T.Task.meaning c.args.task.now in
     omega (arith, length_file (content_of t), c.requires.room, length-set c.args.out.now 0 1, length-set (set c.args.out.now 0 1) 1 c.atoms.result)
 
-pub put-set-at-requires : goal.put-set-at-requires
-put-set-at-requires g c =
+pub put_set-at-requires : goal.put_set-at-requires
+put_set-at-requires g c =
     let t = g.T.Task.meaning c.args.task.now in
-    let ls = ap (λ x. length (unless 0 8 x)) (set_number c.set-of-start.result t.start c.set-of-start.ensures) in
-    omega (arith, length_file (content_of t), c.requires.room, length-set c.args.out.now 0 1, length-set (set c.args.out.now 0 1) 1 c.atoms.result, length-set c.put-two.new.out 4 (c.set-flag.result + 2 * c.set-flag-2.result), ls)
+    let ls = ap (λ x. length (unless 0 8 x)) (set_number c.set_of-start.result t.start c.set_of-start.ensures) in
+    omega (arith, length_file (content_of t), c.requires.room, length-set c.args.out.now 0 1, length-set (set c.args.out.now 0 1) 1 c.atoms.result, length-set c.put_two.new.out 4 (c.set_flag.result + 2 * c.set_flag-2.result), ls)
 
-pub put-set-at-requires-2 : goal.put-set-at-requires-2
-put-set-at-requires-2 g c =
+pub put_set-at-requires-2 : goal.put_set-at-requires-2
+put_set-at-requires-2 g c =
     let t = g.T.Task.meaning c.args.task.now in
-    let ls = ap (λ x. length (unless 0 8 x)) (set_number c.set-of-start.result t.start c.set-of-start.ensures) in
-    let lg = ap (λ x. length (unless 0 8 x)) (set_number c.set-of-goal.result t.goal c.set-of-goal.ensures) in
-    omega (arith, length_file (content_of t), c.requires.room, length-set c.args.out.now 0 1, length-set (set c.args.out.now 0 1) 1 c.atoms.result, length-set c.put-two.new.out 4 (c.set-flag.result + 2 * c.set-flag-2.result), ls, lg)
+    let ls = ap (λ x. length (unless 0 8 x)) (set_number c.set_of-start.result t.start c.set_of-start.ensures) in
+    let lg = ap (λ x. length (unless 0 8 x)) (set_number c.set_of-goal.result t.goal c.set_of-goal.ensures) in
+    omega (arith, length_file (content_of t), c.requires.room, length-set c.args.out.now 0 1, length-set (set c.args.out.now 0 1) 1 c.atoms.result, length-set c.put_two.new.out 4 (c.set_flag.result + 2 * c.set_flag-2.result), ls, lg)
 
-pub put-rows-requires : goal.put-rows-requires
-put-rows-requires g c =
+pub put_rows-requires : goal.put_rows-requires
+put_rows-requires g c =
     let t = g.T.Task.meaning c.args.task.now in
-    let ls = ap (λ x. length (unless 0 8 x)) (set_number c.set-of-start.result t.start c.set-of-start.ensures) in
-    let lg = ap (λ x. length (unless 0 8 x)) (set_number c.set-of-goal.result t.goal c.set-of-goal.ensures) in
-    let room : c.put-set-at-2.result + length (front t t.actions) ≤ length c.put-set-at-2.new.out =
-    omega (arith, length_file (content_of t), c.requires.room, length-set c.args.out.now 0 1, length-set (set c.args.out.now 0 1) 1 c.atoms.result, length-set c.put-two.new.out 4 (c.set-flag.result + 2 * c.set-flag-2.result), ls, lg) in
+    let ls = ap (λ x. length (unless 0 8 x)) (set_number c.set_of-start.result t.start c.set_of-start.ensures) in
+    let lg = ap (λ x. length (unless 0 8 x)) (set_number c.set_of-goal.result t.goal c.set_of-goal.ensures) in
+    let room : c.put_set-at-2.result + length (front t t.actions) ≤ length c.put_set-at-2.new.out =
+    omega (arith, length_file (content_of t), c.requires.room, length-set c.args.out.now 0 1, length-set (set c.args.out.now 0 1) 1 c.atoms.result, length-set c.put_two.new.out 4 (c.set_flag.result + 2 * c.set_flag-2.result), ls, lg) in
     room
 
 pub returns : goal.returns
 returns g c =
     let t = g.T.Task.meaning c.args.task.now in
-    let es = set_number c.set-of-start.result t.start c.set-of-start.ensures in
-    let eg = set_number c.set-of-goal.result t.goal c.set-of-goal.ensures in
-    let em : c.set-flag.result + 2 * c.set-flag-2.result ≡ content_map (content_of t) =
-    ap (λ x. x + 2 * c.set-flag-2.result) (c.set-flag.ensures.is ∙ ap (flag 0) es) ∙ ap (λ x. flag 0 (number 64 t.start) + 2 * x) (c.set-flag-2.ensures.is ∙ ap (flag 0) eg) in
+    let es = set_number c.set_of-start.result t.start c.set_of-start.ensures in
+    let eg = set_number c.set_of-goal.result t.goal c.set_of-goal.ensures in
+    let em : c.set_flag.result + 2 * c.set_flag-2.result ≡ content_map (content_of t) =
+    ap (λ x. x + 2 * c.set_flag-2.result) (c.set_flag.ensures.is ∙ ap (flag 0) es) ∙ ap (λ x. flag 0 (number 64 t.start) + 2 * x) (c.set_flag-2.ensures.is ∙ ap (flag 0) eg) in
     file_written c.args.out.now (content_of t) _ _ _ _ _ _ _ _ _ _ _
     c.atoms.ensures (c.actions.ensures ∙ sym (length-map-range_with_len (λ a. entry_of (t.action a)) 0 t.actions)) em es eg c.requires.room
-    c.put-two.ensures c.put-set-at.ensures.bytes c.put-set-at.ensures.after c.put-set-at-2.ensures.bytes c.put-set-at-2.ensures.after c.put-rows.ensures
+    c.put_two.ensures c.put_set-at.ensures.bytes c.put_set-at.ensures.after c.put_set-at-2.ensures.bytes c.put_set-at-2.ensures.after c.put_rows.ensures

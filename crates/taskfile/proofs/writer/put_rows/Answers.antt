@@ -9,8 +9,8 @@ use Rattle.taskfile.proofs.writer.put_rows.Goals as goal
 pub loop-action-init : goal.loop-action-init
 loop-action-init g c = (written_none c.args.out.now c.args.at, omega arith)
 
-pub put-row-place-requires : goal.put-row-place-requires
-put-row-place-requires g c =
+pub put_row-place-requires : goal.put_row-place-requires
+put_row-place-requires g c =
     let t = g.T.Task.meaning c.args.task.now in
     omega (arith, row_length t c.loop-action.action c.row.result c.row.ensures, front_part t (c.loop-action.action + 1) t.actions (omega arith), c.requires, c.loop-action.invariant.1)
 
@@ -18,9 +18,9 @@ pub loop-action-preserved : goal.loop-action-preserved
 loop-action-preserved g c =
     let t = g.T.Task.meaning c.args.task.now in
     let room : c.args.at + length (front t c.loop-action.action) ≤ length c.args.out.now = omega (arith, front_part t c.loop-action.action t.actions (omega arith), c.requires) in (
-      then_written c.args.out.now c.loop-action.out _ c.args.at c.loop-action.place (front t c.loop-action.action) (entry_bytes (entry_of (row_action c.row.result))) c.loop-action.invariant.0 c.loop-action.invariant.1 c.put-row-place.ensures.bytes room
+      then_written c.args.out.now c.loop-action.out _ c.args.at c.loop-action.place (front t c.loop-action.action) (entry_bytes (entry_of (row_action c.row.result))) c.loop-action.invariant.0 c.loop-action.invariant.1 c.put_row-place.ensures.bytes room
           ∙ ap (written c.args.out.now c.args.at) (row_front t c.loop-action.action c.row.result c.row.ensures),
-      omega (arith, row_length t c.loop-action.action c.row.result c.row.ensures, c.loop-action.invariant.1, c.put-row-place.ensures.after),
+      omega (arith, row_length t c.loop-action.action c.row.result c.row.ensures, c.loop-action.invariant.1, c.put_row-place.ensures.after),
     )
 
 pub returns : goal.returns

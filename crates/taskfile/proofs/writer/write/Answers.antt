@@ -8,8 +8,8 @@ use Rattle.taskfile.proofs.writer.write.Goals as goal
 pub returns : goal.returns
 returns g c =
     let t = g.T.Task.meaning c.args.task.now in
-    let e = c.file-size-size.ensures in (
+    let e = c.file_size-size.ensures in (
       cond-true _ _ _ (is_small t (omega arith) (omega arith)) ∙ cond-true _ _ _ (le-leb (length (encode t)) (length c.args.out.now) (omega arith)),
       e,
-      c.put-file.ensures ∙ (written_front c.args.out.now (encode t) ∙ ap (λ n. encode t ++ drop n c.args.out.now) (sym e)),
+      c.put_file.ensures ∙ (written_front c.args.out.now (encode t) ∙ ap (λ n. encode t ++ drop n c.args.out.now) (sym e)),
     )

@@ -4,9 +4,9 @@ use Rattle.compiled.proofs.Whole.{compiled_whole}
 use Rattle.compiled.proofs.layer.CompiledTask.actions.Goals as goal
 
 pub count-carriers-requires : goal.count-carriers-requires
-count-carriers-requires g c = (small_parts (g.T.Task.meaning c.args.self.now.task) (sym c.if-is-small.ensures)).0
+count-carriers-requires g c = (small_parts (g.T.Task.meaning c.args.self.now.task) (sym c.if-is_small.ensures)).0
 
-pub returns-then-is-small : goal.returns-then-is-small
-returns-then-is-small g c =
+pub returns-then-is_small : goal.returns-then-is_small
+returns-then-is_small g c =
     let v = c.args.self.now in
-    c.count-carriers.ensures ∙ sym (ap (λ u. u.actions) (compiled_whole v.order (g.T.Task.meaning v.task) (g.T.Task.sound v.task) (sym c.if-is-small.ensures)))
+    c.count-carriers.ensures ∙ sym (ap (λ u. u.actions) (compiled_whole v.order (g.T.Task.meaning v.task) (g.T.Task.sound v.task) (sym c.if-is_small.ensures)))

@@ -6,6 +6,6 @@ use Rattle.strips.proofs.atoms.AtomSet.is_below.Goals as goal
 
 pub returns : goal.returns
 returns c = record {
-  test = c.all-below.ensures;
-  within = λ e. below_within c.args.n (members c.args.self) (within_clipped 64 (λ p. bit p c.args.self.bits)) (sym e ∙ c.all-below.ensures);
+  test = c.all_below.ensures;
+  within = λ e. below_within c.args.n (members c.args.self) (within_clipped 64 (λ p. bit p c.args.self.bits)) (sym e ∙ c.all_below.ensures);
 }

@@ -13,11 +13,11 @@ loop-count-init g c = listed_none (part_of (g.Self.Task.meaning c.args.self.now)
 low : (t : Task) → Sound t → (x : Part) (p : ℕ) → part_of t x p ≡ true → p < 2080
 low t s x p e = let k = part_within t s x p e in let n = s.atoms_in in omega arith
 
-pub overflow-cast-list : goal.overflow-cast-list
-overflow-cast-list g c = let l = low (g.Self.Task.meaning c.args.self.now) (g.Self.Task.sound c.args.self.now) c.args.part c.in-Some.atom c.in-Some.ensures.1 in omega arith
+pub overflow_cast-list : goal.overflow_cast-list
+overflow_cast-list g c = let l = low (g.Self.Task.meaning c.args.self.now) (g.Self.Task.sound c.args.self.now) c.args.part c.in-Some.atom c.in-Some.ensures.1 in omega arith
 
-pub overflow-add-at : goal.overflow-add-at
-overflow-add-at g c = let l = low (g.Self.Task.meaning c.args.self.now) (g.Self.Task.sound c.args.self.now) c.args.part c.in-Some.atom c.in-Some.ensures.1 in omega arith
+pub overflow_add-at : goal.overflow_add-at
+overflow_add-at g c = let l = low (g.Self.Task.meaning c.args.self.now) (g.Self.Task.sound c.args.self.now) c.args.part c.in-Some.atom c.in-Some.ensures.1 in omega arith
 
 pub loop-count-preserved : goal.loop-count-preserved
 loop-count-preserved g c =

@@ -20,4 +20,4 @@ pub returns : goal.returns
 returns g c =
     let A = part_of (g.Self.Task.meaning c.args.self.now) c.args.part in
     let e : c.loop-atom.atom ≡ 64 = omega arith in
-    c.from-bits.ensures ∙ (ap bits_of (c.loop-atom.invariant ∙ ap (λ n. number n A) e) ∙ bits_of_number A)
+    c.from_bits.ensures ∙ (ap bits_of (c.loop-atom.invariant ∙ ap (λ n. number n A) e) ∙ bits_of_number A)

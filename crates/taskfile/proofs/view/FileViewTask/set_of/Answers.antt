@@ -6,13 +6,13 @@ use Rattle.taskfile.proofs.Views.{held, view_start, view_goal}
 use Rattle.taskfile.proofs.view.FileViewTask.set_of.Goals as goal
 
 pub returns-in-Needs : goal.returns-in-Needs
-returns-in-Needs c = held c.row-at.result.needs _ (ap (λ (x : Action). x.needs) c.row-at.ensures ∙ ap (part_of (view_task c.args.self.now)) (sym c.in-Needs.is))
+returns-in-Needs c = held c.row_at.result.needs _ (ap (λ (x : Action). x.needs) c.row_at.ensures ∙ ap (part_of (view_task c.args.self.now)) (sym c.in-Needs.is))
 
 pub returns-in-Adds : goal.returns-in-Adds
-returns-in-Adds c = held c.row-at-in-Adds.result.adds _ (ap (λ (x : Action). x.adds) c.row-at-in-Adds.ensures ∙ ap (part_of (view_task c.args.self.now)) (sym c.in-Adds.is))
+returns-in-Adds c = held c.row_at-in-Adds.result.adds _ (ap (λ (x : Action). x.adds) c.row_at-in-Adds.ensures ∙ ap (part_of (view_task c.args.self.now)) (sym c.in-Adds.is))
 
 pub returns-in-Removes : goal.returns-in-Removes
-returns-in-Removes c = held c.row-at-in-Removes.result.removes _ (ap (λ (x : Action). x.removes) c.row-at-in-Removes.ensures ∙ ap (part_of (view_task c.args.self.now)) (sym c.in-Removes.is))
+returns-in-Removes c = held c.row_at-in-Removes.result.removes _ (ap (λ (x : Action). x.removes) c.row_at-in-Removes.ensures ∙ ap (part_of (view_task c.args.self.now)) (sym c.in-Removes.is))
 
 pub returns-in-Start : goal.returns-in-Start
 returns-in-Start c =
@@ -21,5 +21,5 @@ returns-in-Start c =
 
 pub returns-in-Goal : goal.returns-in-Goal
 returns-in-Goal c =
-    held c.in-range-in-Goal.result _
-    (c.in-range-in-Goal.ensures ∙ (sym (view_goal c.args.self.now) ∙ ap (part_of (view_task c.args.self.now)) (sym c.in-Goal.is)))
+    held c.in_range-in-Goal.result _
+    (c.in_range-in-Goal.ensures ∙ (sym (view_goal c.args.self.now) ∙ ap (part_of (view_task c.args.self.now)) (sym c.in-Goal.is)))
