@@ -15,6 +15,8 @@ import sys
 PART = r"[^\s(){}\[\],;.:@`\"'´λ]"
 TOKEN = re.compile(PART + r"+")
 LIBRARY = "copy_from_slice count_ones from_be_bytes from_residual saturating_add saturating_sub to_be_bytes trailing_zeros type_inv in_default"
+# named after a test of two variables, `action < count`
+TESTS = {"if-action-count", "returns-then-action-count"}
 HEADS = "in_ok in_err invariant_of overflow_add overflow_sub overflow_mul overflow_cast overflow_shl overflow_shr nonzero_div slice_bounds offset_bounds"
 
 
@@ -45,7 +47,7 @@ def main():
 
     def turned(found):
         token = re.sub(r"·(\d+)$", r"-\1", found.group())
-        if "-" not in token:
+        if "-" not in token or token in TESTS:
             return token
         if token.startswith(("In-default", "In-ok", "In-err")):
             token = token.replace("-", "_", 1)

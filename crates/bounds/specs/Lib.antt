@@ -1,3 +1,4 @@
+pub mod Smalls
 pub mod Front
 pub mod Readers
 pub mod Costs

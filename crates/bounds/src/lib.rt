@@ -3,6 +3,7 @@
 
 mod direct;
 mod max;
+mod numbers;
 mod order;
 mod pairs;
 mod readers;
@@ -11,5 +12,6 @@ mod table;
 
 pub use direct::direct_bound;
 pub use max::max_bound;
+pub use numbers::numbers_closed;
 pub use order::Order;
 pub use table::{CostTable, NONE};

@@ -1,1 +1,2 @@
+pub mod Compiled
 pub mod Decoded

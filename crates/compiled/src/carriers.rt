@@ -1,80 +1,93 @@
 //! The compiled task's actions by their numbers.
+ghost use Rattle.std.specs.Prelude.{◌≡◌, ◌<◌, ◌≤◌, length, slice_index};
+ghost use Rattle.strips.specs.Sets.{Within};
+ghost use Rattle.strips.specs.Bits.{members};
+ghost use Rattle.bounds.specs.Orders.{size_of};
+ghost use Rattle.compiled.specs.Compiled.{all_carriers};
+ghost use Rattle.compiled.specs.Decoded.{CarrierIs, frees, extras as extra_atoms, cargo_set};
+
 use bounds::Order;
 use strips::{AtomSet, Row, Task};
 
-/// More actions than this no compiled task has: 256 actions, each with nothing or one of 64 atoms taken along.
-pub(crate) const MOST_CARRIERS: usize = 16640;
-
-/// What stands for the cargo of an action that takes nothing along.
-const NO_CARGO: u8 = 64;
-
-/// An action of the task below, and the atom that it takes along, or 64.
+/// An action, and the atoms that it takes along.
 #[derive(Clone, Copy)]
 pub(crate) struct Carrier {
-    pub(crate) action: u8,
-    pub(crate) cargo: u8,
+    pub(crate) row: Row,
+    pub(crate) cargo: AtomSet,
 }
 
-/// The compiled task's actions in their order.
-#[derive(Clone, Copy)]
-pub(crate) struct Carriers {
-    pub(crate) carriers: [Carrier; MOST_CARRIERS],
-    pub(crate) count: usize,
-}
-
-/// The atoms that an action can take along, one at a time.
-fn free_atoms(atoms: usize, order: Order, row: Row) -> AtomSet {
+/// How many atoms an action can take along, one at a time.
+fn extras(atoms: usize, order: Order, touched: AtomSet) -> usize
+    requires { (atoms ≤ 64) × (Within atoms (members touched)) }
+    ensures { result ≡ length (extra_atoms order atoms (members touched)) }
+{
     match order {
-        Order::One => AtomSet::EMPTY,
-        Order::Two => AtomSet::first(atoms).without(row.adds.joined(row.removes)),
+        Order::One => 0,
+        Order::Two => atoms - touched.bits().count_ones() as usize,
     }
 }
 
-impl Carriers {
-    fn push(&mut self, action: u8, cargo: u8) {
-        self.carriers[self.count] = Carrier { action, cargo };
-        self.count += 1;
-    }
-
-    /// An action with nothing taken along, and then with each of some atoms.
-    fn push_all(&mut self, action: u8, cargos: AtomSet) {
-        self.push(action, NO_CARGO);
-        let mut rest = cargos;
-        while let Some((atom, others)) = rest.split_first() {
-            rest = others;
-            self.push(action, atom as u8);
+/// The atom at a place among those that are not touched.
+fn free_atom(atoms: usize, touched: AtomSet, place: usize) -> usize
+    requires { (atoms ≤ 64) × (place < length (frees atoms (members touched))) }
+    ensures { (result ≡ slice_index (frees atoms (members touched)) place) × (result < 64) }
+{
+    let mut left = place;
+    for atom in 0..atoms {
+        if !touched.has(atom) {
+            if left == 0 {
+                return atom;
+            }
+            left -= 1;
         }
     }
+    unreachable()
+}
 
-    /// The actions of the compiled task of a task.
-    pub(crate) fn of<T: Task>(task: &T, order: Order) -> Carriers {
-        let atoms = task.atoms();
-        let mut carriers = Carriers {
-            carriers: [Carrier {
-                action: 0,
-                cargo: NO_CARGO,
-            }; MOST_CARRIERS],
-            count: 0,
-        };
-        for action in 0..task.actions() {
-            carriers.push_all(action as u8, free_atoms(atoms, order, task.row(action)));
-        }
-        carriers
-    }
-
-    /// The action of a number.
-    pub(crate) fn at(&self, number: usize) -> Option<Carrier> {
-        if number < self.count && number < MOST_CARRIERS {
-            Some(self.carriers[number])
-        } else {
-            None
-        }
+/// What an action takes along at a place: first nothing, then each atom that it does not touch.
+fn cargo_at(atoms: usize, order: Order, touched: AtomSet, place: usize) -> AtomSet
+    requires { (atoms ≤ 64) × (place ≤ length (extra_atoms order atoms (members touched))) }
+    ensures { members result ≡ cargo_set (extra_atoms order atoms (members touched)) place }
+{
+    if place == 0 {
+        AtomSet::EMPTY
+    } else {
+        AtomSet::EMPTY.with(free_atom(atoms, touched, place - 1))
     }
 }
 
-impl Carrier {
-    /// What it takes along.
-    pub(crate) fn cargo(self) -> AtomSet {
-        AtomSet::EMPTY.with(usize::from(self.cargo))
+/// The compiled task's action of a number.
+pub(crate) fn carrier_at<T: Task>(task: &T, order: Order, number: usize) -> Option<Carrier>
+    requires { (T.Task.meaning task.now).atoms ≤ 64 }
+    ensures { CarrierIs (size_of order) (T.Task.meaning task.now) number result }
+{
+    let atoms = task.atoms();
+    let mut place = number;
+    for action in 0..task.actions() {
+        let row = task.row(action);
+        let touched = row.adds.joined(row.removes);
+        let more = extras(atoms, order, touched);
+        if place <= more {
+            return Some(Carrier {
+                row,
+                cargo: cargo_at(atoms, order, touched, place),
+            });
+        }
+        place -= more + 1;
     }
+    None
+}
+
+/// How many actions the compiled task has.
+pub(crate) fn count_carriers<T: Task>(task: &T, order: Order) -> usize
+    requires { (T.Task.meaning task.now).atoms ≤ 64 }
+    ensures { result ≡ length (all_carriers (size_of order) (T.Task.meaning task.now)) }
+{
+    let atoms = task.atoms();
+    let mut total = 0;
+    for action in 0..task.actions() {
+        let row = task.row(action);
+        total += extras(atoms, order, row.adds.joined(row.removes)) + 1;
+    }
+    total
 }

@@ -1,10 +1,10 @@
 //! The compiled task as a layer over a task.
 ghost use Rattle.std.specs.Prelude.{◌≡◌, Some, None, MatchResult};
 ghost use Rattle.bounds.specs.Orders.{size_of, bound_denied};
-ghost use Rattle.heuristics.specs.Compiled.{compiled, compiled_task, compiled_sound};
+ghost use Rattle.compiled.specs.Compiled.{compiled, compiled_task, compiled_sound};
 
-use crate::carriers::{Carriers, MOST_CARRIERS};
-use crate::scopes::{part_has, part_list, part_next};
+use crate::carriers::{carrier_at, count_carriers};
+use crate::scopes::{part_has, part_next};
 use crate::subsets::subsets;
 use bounds::Order;
 use strips::{Denial, Part, Task, is_small};
@@ -15,7 +15,6 @@ use strips::{Denial, Part, Task, is_small};
 pub struct Compiled<T> {
     task: T,
     order: Order,
-    carriers: Carriers,
 }
 
 impl<T: Task + Drop> Compiled<T> {
@@ -30,14 +29,7 @@ impl<T: Task + Drop> Compiled<T> {
             return Err(Denial::TaskOutOfRange);
         }
         match Order::of(order) {
-            Some(order) => {
-                let carriers = Carriers::of(&task, order);
-                Ok(Compiled {
-                    task,
-                    order,
-                    carriers,
-                })
-            }
+            Some(order) => Ok(Compiled { task, order }),
             None => Err(Denial::OrderUnknown),
         }
     }
@@ -58,30 +50,18 @@ impl<T: Task> Task for Compiled<T> {
 
     fn actions(&self) -> usize {
         if is_small(&self.task) {
-            self.carriers.count.min(MOST_CARRIERS)
+            count_carriers(&self.task, self.order)
         } else {
             0
         }
     }
 
     fn needs(&self, action: usize, atom: usize) -> bool {
-        part_has(
-            &self.task,
-            self.order,
-            &self.carriers,
-            Part::Needs(action),
-            atom,
-        )
+        part_has(&self.task, self.order, Part::Needs(action), atom)
     }
 
     fn adds(&self, action: usize, atom: usize) -> bool {
-        part_has(
-            &self.task,
-            self.order,
-            &self.carriers,
-            Part::Adds(action),
-            atom,
-        )
+        part_has(&self.task, self.order, Part::Adds(action), atom)
     }
 
     fn removes(&self, _action: usize, _atom: usize) -> bool {
@@ -92,25 +72,21 @@ impl<T: Task> Task for Compiled<T> {
         if !is_small(&self.task) {
             return 0;
         }
-        match self.carriers.at(action) {
-            Some(carrier) => self.task.cost(usize::from(carrier.action)),
+        match carrier_at(&self.task, self.order, action) {
+            Some(carrier) => carrier.row.cost,
             None => 0,
         }
     }
 
     fn in_start(&self, atom: usize) -> bool {
-        part_has(&self.task, self.order, &self.carriers, Part::Start, atom)
+        part_has(&self.task, self.order, Part::Start, atom)
     }
 
     fn in_goal(&self, atom: usize) -> bool {
-        part_has(&self.task, self.order, &self.carriers, Part::Goal, atom)
+        part_has(&self.task, self.order, Part::Goal, atom)
     }
 
     fn next_of(&self, part: Part, from: usize) -> Option<usize> {
-        part_next(&self.task, self.order, &self.carriers, part, from)
-    }
-
-    fn list_of(&self, part: Part, from: usize, list: &mut [u16; 16]) -> usize {
-        part_list(&self.task, self.order, &self.carriers, part, from, list)
+        part_next(&self.task, self.order, part, from)
     }
 }

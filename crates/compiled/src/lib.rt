@@ -8,4 +8,5 @@ mod scopes;
 mod subsets;
 
 pub use bound::compiled_bound;
+pub use bounds::max_bound;
 pub use layer::Compiled;

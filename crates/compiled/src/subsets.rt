@@ -3,7 +3,7 @@ ghost use Rattle.std.specs.Prelude.{◌≡◌, ◌+◌, ◌<◌, ◌≤◌, leng
 ghost use Rattle.strips.specs.Sets.{clipped};
 ghost use Rattle.strips.specs.Bits.{members};
 ghost use Rattle.strips.specs.Parts.{FirstFrom};
-ghost use Rattle.heuristics.specs.Smalls.{smalls};
+ghost use Rattle.bounds.specs.Smalls.{smalls};
 ghost use Rattle.bounds.specs.Orders.{size_of};
 ghost use Rattle.compiled.specs.Decoded.{SetIs, scoped, lows, scoped_pairs};
 
@@ -119,55 +119,5 @@ pub(crate) fn next_scoped(atoms: usize, order: Order, scope: Scope, from: usize)
     match order {
         Order::One => None,
         Order::Two => next_pair(atoms, scope, from),
-    }
-}
-
-/// Puts the numbers of some sets at the end of a list of `count` numbers: `base` and an atom are a set's number. Numbers below
-/// `from` are left out, and so are those for which there is no room.
-fn put_all(list: &mut [u16; 16], count: usize, base: usize, atoms: AtomSet, from: usize) -> usize {
-    let mut count = count;
-    let mut rest = atoms;
-    while let Some((atom, others)) = rest.split_first() {
-        rest = others;
-        if count < 16 && from <= base + atom {
-            list[count] = (base + atom) as u16;
-            count += 1;
-        }
-    }
-    count
-}
-
-/// Puts the numbers of the pairs that a scope takes in at the end of a list.
-fn put_pairs(list: &mut [u16; 16], count: usize, atoms: usize, scope: Scope, from: usize) -> usize {
-    let all = scope.core.joined(scope.rim);
-    let mut count = count;
-    let mut rest = all;
-    while let Some((high, others)) = rest.split_first() {
-        rest = others;
-        if count < 16 {
-            let lows = if scope.core.has(high) {
-                all
-            } else {
-                scope.core
-            };
-            let base = atoms + high * high.saturating_sub(1) / 2;
-            count = put_all(list, count, base, lows.common(AtomSet::first(high)), from);
-        }
-    }
-    count
-}
-
-/// Lists the first numbers at or after `from` of sets that a scope takes in, and tells how many.
-pub(crate) fn list_scoped(
-    atoms: usize,
-    order: Order,
-    scope: Scope,
-    from: usize,
-    list: &mut [u16; 16],
-) -> usize {
-    let count = put_all(list, 0, 0, scope.core, from);
-    match order {
-        Order::One => count,
-        Order::Two => put_pairs(list, count, atoms, scope, from),
     }
 }

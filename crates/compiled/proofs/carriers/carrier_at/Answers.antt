@@ -20,9 +20,9 @@ pub returns-then-place-more : goal.returns-then-place-more
 returns-then-place-more g c =
     let t = g.T.Task.meaning c.args.task.now in
     carrier_found c.args.order t (g.T.Task.sound c.args.task.now) c.requires c.loop-action.action c.loop-action.place c.args.number
-    c.row-row.result (members c.joined-touched.result) (members c.cargo-at.result) c.atoms-atoms.result c.atoms-atoms.ensures
+    c.row-row.result (members c.joined-touched.result) (members c.cargo_at.result) c.atoms-atoms.result c.atoms-atoms.ensures
     (let e = c.actions-action-end.ensures in omega arith) c.row-row.ensures c.joined-touched.ensures
-    (let e = c.extras-more.ensures in omega arith) c.cargo-at.ensures c.loop-action.invariant
+    (let e = c.extras-more.ensures in omega arith) c.cargo_at.ensures c.loop-action.invariant
 
 pub loop-action-preserved : goal.loop-action-preserved
 loop-action-preserved g c =

@@ -6,8 +6,8 @@ use Rattle.strips.proofs.Layered.{small_parts}
 use Rattle.compiled.proofs.Compiling.{action_none, needs_scoped}
 use Rattle.compiled.proofs.scopes.needs_scope.Goals as goal
 
-pub carrier-at-requires : goal.carrier-at-requires
-carrier-at-requires g c = (small_parts (g.T.Task.meaning c.args.task.now) c.requires).0
+pub carrier_at-requires : goal.carrier_at-requires
+carrier_at-requires g c = (small_parts (g.T.Task.meaning c.args.task.now) c.requires).0
 
 pub returns-in_err-carrier : goal.returns-in_err-carrier
 returns-in_err-carrier g c =

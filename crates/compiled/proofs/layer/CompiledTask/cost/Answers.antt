@@ -3,8 +3,8 @@ use Rattle.strips.proofs.Layered.{small_parts}
 use Rattle.compiled.proofs.Compiling.{action_some, action_none}
 use Rattle.compiled.proofs.layer.CompiledTask.cost.Goals as goal
 
-pub carrier-at-requires : goal.carrier-at-requires
-carrier-at-requires g c = (small_parts (g.T.Task.meaning c.args.self.now.task) (sym c.if-not-is_small.ensures)).0
+pub carrier_at-requires : goal.carrier_at-requires
+carrier_at-requires g c = (small_parts (g.T.Task.meaning c.args.self.now.task) (sym c.if-not-is_small.ensures)).0
 
 pub returns-in-Some : goal.returns-in-Some
 returns-in-Some g c =

@@ -5,4 +5,4 @@ use Rattle.compiled.proofs.layer.CompiledTask.removes.Goals as goal
 pub returns : goal.returns
 returns g c =
     let v = c.args.self.now in
-    sym (ap (λ A. A c.args.-atom) (removes_none v.order (g.T.Task.meaning v.task) (g.T.Task.sound v.task) c.args.-action))
+    sym (ap (λ A. A c.args._atom) (removes_none v.order (g.T.Task.meaning v.task) (g.T.Task.sound v.task) c.args._action))
