@@ -28,10 +28,7 @@ fn main() {
         return;
     }
     let product = folder("SHELFLINE_LIB", "libembed.a");
-    let runtime = folder("RATTLE_LIB", "librattle_c.a");
     println!("cargo:rustc-link-search=native={product}");
-    println!("cargo:rustc-link-search=native={runtime}");
-    // The product uses the other library, so it comes first. `-bundle` hands both to the linker as they are.
+    // `-bundle` hands the library to the linker as it is.
     println!("cargo:rustc-link-lib=static:-bundle=embed");
-    println!("cargo:rustc-link-lib=static:-bundle=rattle_c");
 }

@@ -1,4 +1,4 @@
-//! The planner for controllers in C: include/shelfline.h says what each call does.
+//! The planner for controllers in C: include/shelfline.h says what each call does. The crate `embed_c` exports these calls.
 #![tactic(auto)]
 
 mod text;
@@ -61,8 +61,7 @@ fn read(file: &[u8], rows: &mut RowTable, told: &mut [u64]) -> u32 {
 }
 
 /// Checks a file, and tells its numbers of atoms and actions.
-#[unsafe(no_mangle)]
-pub extern "C" fn shelfline_check(file: &[u8], told: &mut [u64]) -> u32 {
+pub fn shelfline_check(file: &[u8], told: &mut [u64]) -> u32 {
     if told.len() < 2 {
         return number(Denial::DoesNotFit);
     }
@@ -76,8 +75,7 @@ pub extern "C" fn shelfline_check(file: &[u8], told: &mut [u64]) -> u32 {
 }
 
 /// Tells a bound: direct for way 0, compiled for way 1.
-#[unsafe(no_mangle)]
-pub extern "C" fn shelfline_bound(file: &[u8], way: u32, order: u32, told: &mut [u64]) -> u32 {
+pub fn shelfline_bound(file: &[u8], way: u32, order: u32, told: &mut [u64]) -> u32 {
     if told.len() < 2 {
         return number(Denial::DoesNotFit);
     }
@@ -140,8 +138,7 @@ fn tell_search(told: &mut [u64], answer: Result<Answer, Refused>) -> u32 {
 }
 
 /// Searches for a cheapest plan, in a table of some places.
-#[unsafe(no_mangle)]
-pub extern "C" fn shelfline_search(
+pub fn shelfline_search(
     file: &[u8],
     estimator: u32,
     order: u32,
@@ -164,8 +161,7 @@ pub extern "C" fn shelfline_search(
 }
 
 /// Writes a file's listing.
-#[unsafe(no_mangle)]
-pub extern "C" fn shelfline_listing(file: &[u8], text: &mut [u8], told: &mut [u64]) -> u32 {
+pub fn shelfline_listing(file: &[u8], text: &mut [u8], told: &mut [u64]) -> u32 {
     if told.len() < 1 {
         return number(Denial::DoesNotFit);
     }
