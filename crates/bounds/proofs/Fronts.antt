@@ -1,14 +1,14 @@
 -- Settling the entries of a table in the order of their costs ends in the largest lawful table.
-use Rattle.std.proofs.Common.{◌≡◌, ℕ, zero, suc, ◌+◌, ◌<◌, ◌≤◌, min, Bool, true, false, cond, leb, ◌⊎◌, sym, refl, ap, ◌∙◌, subst, inl, inr, ⊎_elim, true≢false, le_trans, le_refl, arith}
+use Rattle.std.proofs.Common.{◌≡◌, ℕ, zero, suc, ◌<◌, ◌≤◌, min, Bool, true, false, cond, ◌⊎◌, sym, refl, ap, ◌∙◌, subst, inl, inr, ⊎_elim, true≢false, le_trans, le_refl, arith}
 use Rattle.std.proofs.lemmas.Bool.{cases_lt, cases_Bool, cond-true, cond-false}
-use Rattle.strips.specs.Sets.{Atoms, inside}
+use Rattle.strips.specs.Sets.{inside}
 use Rattle.strips.specs.Task.{Task}
 use Rattle.heuristics.specs.Scale.{tenths}
 use Rattle.heuristics.specs.Smalls.{set_at}
 use Rattle.heuristics.specs.Tables.{Table, usable, before, entries, value, by_way, next, least, Lawful, rounds, bound_of}
 use Rattle.heuristics.proofs.Folds.{greatest_same, least_below, least_greatest}
 use Rattle.heuristics.proofs.Finite.{added_laws}
-use Rattle.heuristics.proofs.Facts.{value_least, in_value, same_value, rounds_above, cut_off, last_largest}
+use Rattle.heuristics.proofs.Facts.{value_least, in_value, rounds_above, cut_off, last_largest}
 use Rattle.bounds.specs.Front.{Ready, Entered, Front, Fell, stayed, fell, Lowered}
 
 -- the number that stands for none

@@ -1,5 +1,5 @@
 -- What a table of costs says.
-use Rattle.std.specs.Prelude.{ℕ, Bool, cond, ◌&&◌, List, set, nat_lt, slice_index, slice_set}
+use Rattle.std.specs.Prelude.{ℕ, Bool, cond, ◌&&◌, List, nat_lt, slice_index, slice_set}
 use Rattle.bounds.specs.declared.table.CostTable.{CostTable}
 
 -- the cost of the set of a number

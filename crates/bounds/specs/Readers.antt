@@ -1,5 +1,5 @@
 -- Which actions need an atom.
-use Rattle.std.specs.Prelude.{◌≡◌, ℕ, ◌+◌, ◌*◌, ◌<◌, Bool, ◌&&◌, ◌||◌, List, [], ◌==◌, slice_index_or}
+use Rattle.std.specs.Prelude.{◌≡◌, ℕ, ◌+◌, ◌*◌, ◌<◌, ◌&&◌, ◌||◌, List, [], ◌==◌, slice_index_or}
 use Rattle.strips.specs.Sets.{Atoms, meets}
 use Rattle.strips.specs.Task.{Task}
 use Rattle.strips.specs.Bits.{members}

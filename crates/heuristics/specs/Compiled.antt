@@ -1,5 +1,5 @@
 -- The compiled task P^m, whose atoms stand for the sets of 1 to m atoms of a task.
-use Rattle.std.specs.Prelude.{◌≡◌, ℕ, zero, suc, pred, Bool, true, false, cond, not, ◌&&◌, List, [], ◌∷◌, ◌++◌, map, length, ◌≢◌, slice_index_or}
+use Rattle.std.specs.Prelude.{ℕ, zero, suc, pred, Bool, true, false, cond, not, ◌&&◌, List, [], ◌∷◌, ◌++◌, map, length, ◌≢◌, slice_index_or}
 use Rattle.std.proofs.Common.{sym, true≢false, arith}
 use Rattle.strips.specs.Sets.{Atoms, nothing, joined, clipped, inside, meets}
 use Rattle.strips.specs.Task.{Action, Task, Sound, no_action, small}

@@ -1,11 +1,11 @@
 -- What is proved of tables, bounds and the compiled task, for every m and every scale.
-use Rattle.std.specs.Prelude.{◌≡◌, ℕ, zero, suc, ◌+◌, ◌*◌, ◌<◌, ◌≤◌, min, true, ◌↔◌, List, [], ◌∷◌, length, Some, None, Option, slice_index_or}
+use Rattle.std.specs.Prelude.{◌≡◌, ℕ, zero, suc, ◌+◌, ◌*◌, ◌<◌, ◌≤◌, min, true, List, [], ◌∷◌, length, Some, slice_index_or}
 use Rattle.strips.specs.Sets.{Atoms, nothing, inside, Apart}
-use Rattle.strips.specs.Task.{Action, Task, Sound, no_action, applies, after, Plan, plan_cost}
+use Rattle.strips.specs.Task.{Task, Sound, applies, after, Plan, plan_cost}
 use Rattle.strips.specs.Layers.{with_errand}
-use Rattle.heuristics.specs.Scale.{Scale, ScaleLaws, added, tenths}
-use Rattle.heuristics.specs.Tables.{Table, entries, next, Lawful, Largest, Bound, rounds, bound_of, bound}
-use Rattle.heuristics.specs.Compiled.{carrying, cargo, carriers, all_carriers, compiled}
+use Rattle.heuristics.specs.Scale.{Scale, ScaleLaws, added}
+use Rattle.heuristics.specs.Tables.{Table, entries, Largest, Bound, rounds, bound_of, bound}
+use Rattle.heuristics.specs.Compiled.{carrying, cargo, compiled}
 
 -- no action adds and removes one atom
 abbrev pub Proper : Task → Type 0

@@ -1,5 +1,5 @@
 -- Tasks made of a task.
-use Rattle.std.specs.Prelude.{◌≡◌, ℕ, Bool, true, false, cond, ◌&&◌, Some, None, Option}
+use Rattle.std.specs.Prelude.{ℕ, Bool, cond, ◌&&◌, Some, None, Option}
 use Rattle.strips.specs.Sets.{Atoms, nothing, clipped, first, inside}
 use Rattle.strips.specs.Task.{Action, Task, small}
 use Rattle.strips.specs.declared.denial.Denial.{Denial}

@@ -1,5 +1,5 @@
 -- The sets that a task has, by name.
-use Rattle.std.specs.Prelude.{◌≡◌, ℕ, ◌<◌, ◌≤◌, Bool, true, false, ◌⊎◌, List, Some, None, Option, slice_index}
+use Rattle.std.specs.Prelude.{◌≡◌, ℕ, ◌<◌, ◌≤◌, true, false, ◌⊎◌, List, Some, None, Option, slice_index}
 use Rattle.strips.specs.Sets.{Atoms, less}
 use Rattle.strips.specs.Bits.{number}
 use Rattle.strips.specs.Task.{Task}

@@ -1,9 +1,9 @@
 -- That the tasks of layers are sound, which their ghost members cite, and how any task is made sound.
-use Rattle.std.specs.Prelude.{◌≡◌, ℕ, ◌<◌, ◌≤◌, min, Bool, true, false, cond, not, ◌&&◌, ◌⊎◌, ◌≢◌, nat_lt, refl}
-use Rattle.std.proofs.Common.{sym, ◌∙◌, ap, true≢false, inl, inr, arith, ltb-true, le-ltb}
+use Rattle.std.specs.Prelude.{◌≡◌, ℕ, min, Bool, true, false, cond, not, ◌&&◌, ◌≢◌, nat_lt}
+use Rattle.std.proofs.Common.{sym, ap, true≢false, arith, ltb-true, le-ltb}
 use Rattle.std.proofs.Math.Nat.{min-le_right}
 use Rattle.std.proofs.lemmas.Bool.{and_parts}
-use Rattle.strips.specs.Sets.{Atoms, nothing, without, clipped, Within, Apart}
+use Rattle.strips.specs.Sets.{Atoms, nothing, without, clipped, Within}
 use Rattle.strips.specs.Task.{Action, Task, Sound, SoundAction, no_action}
 use Rattle.strips.specs.Layers.{errand_task, with_closures, idle}
 

@@ -1,5 +1,5 @@
 -- The task of a row table, and what its calls are refused for and leave.
-use Rattle.std.specs.Prelude.{◌≡◌, ℕ, ◌≤◌, Bool, true, false, cond, ◌&&◌, Some, None, Option, ◌==◌, nat_le, nat_lt, slice_index_or}
+use Rattle.std.specs.Prelude.{ℕ, Bool, true, false, cond, ◌&&◌, Some, None, Option, ◌==◌, nat_le, nat_lt, slice_index_or}
 use Rattle.std.proofs.Common.{ap, arith, le-ltb}
 use Rattle.strips.specs.Sets.{Atoms, nothing, first, inside, meets}
 use Rattle.strips.specs.Task.{Action, Task, Sound, SoundAction, small, no_action}

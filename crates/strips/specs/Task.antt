@@ -1,5 +1,5 @@
 -- Planning tasks over atoms (STRIPS), their states and their plans.
-use Rattle.std.specs.Prelude.{◌≡◌, ℕ, ◌+◌, ◌<◌, ◌≤◌, Bool, true, false, ◌&&◌, List, [], ◌∷◌, nat_le}
+use Rattle.std.specs.Prelude.{◌≡◌, ℕ, ◌+◌, ◌<◌, ◌≤◌, Bool, true, ◌&&◌, List, [], ◌∷◌, nat_le}
 use Rattle.strips.specs.Sets.{Atoms, nothing, joined, without, inside, Within, Apart}
 
 -- what an action needs, adds, removes and costs, the cost in tenths of a second

@@ -1,5 +1,5 @@
 -- Tasks and the numbers of their files.
-use Rattle.std.proofs.Common.{◌≡◌, ℕ, zero, suc, ◌+◌, ◌^◌, ◌<◌, ◌≤◌, Bool, true, false, not, ◌&&◌, eqb, ltb, ◌⊎◌, [], map, length, get_or, sym, refl, ap, ◌∙◌, subst, ⊎_elim, true≢false, arith, pow_mono}
+use Rattle.std.proofs.Common.{◌≡◌, ℕ, zero, suc, ◌+◌, ◌^◌, ◌<◌, ◌≤◌, Bool, true, false, not, ◌&&◌, eqb, ltb, map, length, get_or, sym, refl, ap, ◌∙◌, subst, ⊎_elim, true≢false, arith, pow_mono}
 use lib.Bits.{bit_and}
 use Rattle.std.specs.List.{range_with_len, AllByRecursion as All}
 use Rattle.std.proofs.lemmas.Nat.{pow_pos, and_le_l}

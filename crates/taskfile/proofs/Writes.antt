@@ -1,5 +1,5 @@
 -- What the writer leaves in the buffer.
-use Rattle.std.proofs.Common.{◌≡◌, ℕ, zero, suc, ◌+◌, ◌-◌, ◌*◌, ◌/◌, ◌%◌, ◌^◌, ◌<◌, ◌≤◌, eqb, ◌⊎◌, List, [], ◌∷◌, ◌++◌, map, length, take, drop, set, sym, refl, ap, ◌∙◌, subst, ⊎_elim, append_assoc, mod-eq_of_lt, div-one, add-one, arith, length-append, length-drop}
+use Rattle.std.proofs.Common.{◌≡◌, ℕ, zero, suc, ◌+◌, ◌-◌, ◌*◌, ◌/◌, ◌%◌, ◌^◌, ◌<◌, ◌≤◌, eqb, List, [], ◌∷◌, ◌++◌, map, length, take, drop, set, sym, refl, ap, ◌∙◌, subst, ⊎_elim, append_assoc, mod-eq_of_lt, div-one, add-one, arith, length-append, length-drop}
 use native.Mathlib.Nat.{pow-succ'}
 use lib.Arith.{mod-mul}
 use borrow.Rule.Slice.PartMut.{put_mid}

@@ -1,5 +1,5 @@
 use Rattle.std.proofs.Common.{◌&&◌, ap, ◌∙◌}
-use Rattle.strips.specs.Sets.{joined, meets}
+use Rattle.strips.specs.Sets.{meets}
 use Rattle.strips.specs.Bits.{members}
 use Rattle.compiled.proofs.Scoped.{scoped_by, around}
 use Rattle.compiled.proofs.subsets.is_scoped.Goals as goal

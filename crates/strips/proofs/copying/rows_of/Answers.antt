@@ -1,4 +1,4 @@
-use Rattle.std.proofs.Common.{◌≡◌, List, length, get_or, replicate, ap, ◌∙◌, arith, length-set}
+use Rattle.std.proofs.Common.{List, length, get_or, ap, ◌∙◌, arith, length-set}
 use lib.ListN.{length-replicate}
 use Rattle.strips.specs.Rows.{no_row}
 use Rattle.strips.specs.declared.row.Row.{Row}

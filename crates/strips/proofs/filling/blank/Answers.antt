@@ -1,4 +1,4 @@
-use Rattle.std.proofs.Common.{◌≡◌, ◌≤◌, List, sym, ap, ◌∙◌, subst, arith}
+use Rattle.std.proofs.Common.{◌≤◌, List, sym, ap, ◌∙◌, subst, arith}
 use Rattle.strips.specs.Sets.{Within, Apart}
 use Rattle.strips.specs.Bits.{members}
 use Rattle.strips.specs.Rows.{rows_task, AllWithin, AllApart, AllCheap}

@@ -1,4 +1,4 @@
-use Rattle.std.proofs.Common.{ℕ, ◌+◌, ◌*◌}
+use Rattle.std.proofs.Common.{◌+◌, ◌*◌}
 use Rattle.strips.specs.Task.{Task}
 use Rattle.strips.specs.Bits.{members, number}
 use Rattle.bounds.specs.Readers.{Reads}

@@ -1,4 +1,3 @@
-use Rattle.std.proofs.Common.{◌≡◌, false}
 use Rattle.strips.proofs.Layered.{none_closed}
 use Rattle.strips.proofs.closures.Closures.none.Goals as goal
 

@@ -1,4 +1,4 @@
-use Rattle.std.proofs.Common.{ltb, arith}
+use Rattle.std.proofs.Common.{arith}
 use Rattle.strips.specs.Bits.{bit, members}
 use Rattle.strips.specs.Soundness.{within_clipped}
 use Rattle.strips.proofs.Layered.{errand_made}

@@ -1,4 +1,4 @@
-use Rattle.std.proofs.Common.{◌≡◌, ◌<◌, ◌≤◌, length, refl, arith}
+use Rattle.std.proofs.Common.{◌<◌, ◌≤◌, length, refl, arith}
 use Rattle.strips.specs.Sets.{Within, Apart}
 use Rattle.strips.specs.Bits.{members}
 use Rattle.strips.proofs.Rowed.{set_each, apart_from, members_within}

@@ -1,4 +1,4 @@
-use Rattle.std.proofs.Common.{◌≡◌, ℕ, ◌-◌, ◌<◌, ◌≤◌, true, length, get_or}
+use Rattle.std.proofs.Common.{◌-◌}
 use Rattle.strips.specs.Parts.{part_of}
 use Rattle.strips.proofs.Listing.{ListedTo}
 use Rattle.strips.proofs.task.Task.list_of.Given as goal

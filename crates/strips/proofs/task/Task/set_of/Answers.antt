@@ -1,4 +1,4 @@
-use Rattle.std.proofs.Common.{◌≡◌, ◌<◌, true, false, sym, refl, ap, ◌∙◌, arith}
+use Rattle.std.proofs.Common.{◌≡◌, refl, ap, ◌∙◌, arith}
 use Rattle.strips.specs.Bits.{number, bits_of}
 use Rattle.strips.specs.Parts.{part_of}
 use Rattle.strips.proofs.Members.{number_put, number_skip, bits_of_number}
