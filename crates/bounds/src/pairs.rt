@@ -3,7 +3,7 @@
 ghost use Rattle.std.specs.Prelude.{◌≡◌, ◌+◌, ◌-◌, ◌*◌, ◌/◌, ◌<◌, ◌≤◌, length};
 
 use crate::readers::Readers;
-use crate::table::row_start;
+use crate::table::pair_number;
 use crate::{CostTable, NONE};
 use strips::{AtomSet, Part, Row, RowTable, Task};
 
@@ -15,9 +15,9 @@ fn set_number(atoms: usize, p: usize, q: usize) -> usize
     requires { (atoms ≤ 64) × ((p < 64) × (q < 64)) }
 {
     if p < q {
-        row_start(atoms, q) + p
+        pair_number(atoms, p, q)
     } else if q < p {
-        row_start(atoms, p) + q
+        pair_number(atoms, q, p)
     } else {
         p
     }

@@ -17,6 +17,14 @@ pub(crate) fn row_start(atoms: usize, high: usize) -> usize
     atoms + high * high.saturating_sub(1) / 2
 }
 
+/// The number of the set of two atoms.
+pub(crate) fn pair_number(atoms: usize, low: usize, high: usize) -> usize
+    requires { (atoms ≤ 64) × ((low < high) × (high < 64)) }
+    ensures { result ≡ atoms + high * (high - 1) / 2 + low }
+{
+    row_start(atoms, high) + low
+}
+
 /// A cost, or none, for every set of atoms, by the set's number.
 #[derive(Clone, Copy)]
 pub struct CostTable {

@@ -1,5 +1,5 @@
 -- Actions as rows of three sets and a cost, and tasks as tables of rows.
-use Rattle.std.specs.Prelude.{ℕ, ◌≤◌, cond, List, get_or, nat_lt, slice_index_or}
+use Rattle.std.specs.Prelude.{ℕ, ◌≤◌, cond, List, nat_lt, slice_index_or}
 use Rattle.strips.specs.Sets.{clipped, Within, Apart}
 use Rattle.strips.specs.Task.{Action, Task, no_action}
 use Rattle.strips.specs.Bits.{members}
@@ -38,7 +38,7 @@ abbrev pub AllWithin : ℕ → (Row → AtomSet) → List Row → Type 0
 AllWithin n part rows = (a : ℕ) → Within n (members (part (slice_index_or rows a no_row)))
 
 abbrev pub AllApart : List Row → Type 0
-AllApart rows = (a : ℕ) → Apart (members (get_or rows a no_row).adds) (members (get_or rows a no_row).removes)
+AllApart rows = (a : ℕ) → Apart (members (slice_index_or rows a no_row).adds) (members (slice_index_or rows a no_row).removes)
 
 abbrev pub AllCheap : List Row → Type 0
-AllCheap rows = (a : ℕ) → (get_or rows a no_row).cost ≤ 65535
+AllCheap rows = (a : ℕ) → (slice_index_or rows a no_row).cost ≤ 65535
