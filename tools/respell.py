@@ -128,4 +128,5 @@ def main():
                     f.write(text)
 
 
-main()
+if __name__ == "__main__":
+    main()

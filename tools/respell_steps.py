@@ -12,25 +12,22 @@ import os
 import re
 import sys
 
+sys.dont_write_bytecode = True
+
+from respell import read, texts
+
 PART = r"[^\s(){}\[\],;.:@`\"'´λ]"
 TOKEN = re.compile(PART + r"+")
-LIBRARY = "copy_from_slice count_ones from_be_bytes from_residual saturating_add saturating_sub to_be_bytes trailing_zeros type_inv in_default"
+LIBRARY = """
+copy_from_slice count_ones from_be_bytes from_residual saturating_add saturating_sub to_be_bytes trailing_zeros type_inv
+in_default
+"""
 # named after a test of two variables, `action < count`
 TESTS = {"if-action-count", "returns-then-action-count"}
-HEADS = "in_ok in_err invariant_of overflow_add overflow_sub overflow_mul overflow_cast overflow_shl overflow_shr nonzero_div slice_bounds offset_bounds"
-
-
-def files(root, ending):
-    for folder, dirs, names in os.walk(os.path.join(root, "crates")):
-        dirs[:] = sorted(d for d in dirs if d != "out")
-        for name in sorted(names):
-            if name.endswith(ending):
-                yield os.path.join(folder, name)
-
-
-def read(path):
-    with open(path, encoding="utf-8", newline="") as f:
-        return f.read()
+HEADS = """
+in_ok in_err invariant_of overflow_add overflow_sub overflow_mul overflow_cast overflow_shl overflow_shr nonzero_div
+slice_bounds offset_bounds
+"""
 
 
 def main():
@@ -38,7 +35,7 @@ def main():
         raise SystemExit(__doc__)
     root = sys.argv[1]
     names = set(LIBRARY.split()) | set(HEADS.split())
-    for path in files(root, ".rt"):
+    for path in texts(root, ".rt"):
         text = read(path)
         names.update(re.findall(r"\bfn (\w+)", text))
         names.update(re.findall(r"\blet (?:mut )?(\w+)", text))
@@ -55,12 +52,13 @@ def main():
             token = form.sub(name, token)
         return token
 
-    for path in files(root, ".antt"):
+    for path in texts(root, ".antt"):
         if os.path.basename(path) not in ("Answers.antt", "Invariants.antt"):
             continue
         old = read(path)
         # names of lemmas, which the file imports, stay
-        imported = {it.strip() for line in re.findall(r"^use .*\.\{(.*)\}$", old, re.M) if "Goals" not in line for it in line.split(",")}
+        lists = re.findall(r"^use (\S+)\.\{(.*)\}$", old, re.M)
+        imported = {it.strip() for module, words in lists if not module.endswith(".Goals") for it in words.split(",")}
         text = TOKEN.sub(lambda it: it.group() if it.group() in imported else turned(it), old)
         if text != old:
             with open(path, "w", encoding="utf-8", newline="") as f:

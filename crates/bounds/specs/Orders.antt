@@ -15,10 +15,11 @@ abbrev pub size_of : Order → ℕ
 size_of One = 1
 size_of Two = 2
 
--- what a bound, or a compilation, is refused for
+-- what an order is refused for
 abbrev pub order_denied : Option Order → Option Denial
 order_denied None = Some OrderUnknown
 order_denied (Some o) = None
 
+-- what a bound, or a compilation, is refused for
 abbrev pub bound_denied : Task → ℕ → Option Denial
 bound_denied t order = cond (small t) (order_denied (order_of order)) (Some TaskOutOfRange)

@@ -7,7 +7,8 @@ use crate::singles::singles_bound;
 use crate::{CostTable, NONE, Order};
 use strips::{Denial, RowTable, Task};
 
-/// The bound over sets of 1 to `order` atoms, or none: the goal's value once all costs are settled.
+/// The bound over sets of 1 to `order` atoms, or none: the goal's value once the goal's sets are settled. The lent table is
+/// empty afterwards.
 pub fn direct_bound<T: Task>(
     table: &mut CostTable,
     task: &T,

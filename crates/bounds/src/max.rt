@@ -7,7 +7,7 @@ use strips::{Part, Task};
 /// How many atoms are asked for at once.
 const BATCH: usize = 16;
 
-/// More rounds than there are atoms: each round but the last lowers an atom's cost for good.
+/// More rounds than there are atoms: each round but the last lowers an atom's cost for good. There are fewer batches too.
 const ROUNDS: usize = 2081;
 
 const MOST_ACTIONS: usize = 16640;
@@ -19,7 +19,7 @@ struct Dearest {
     atom: u16,
 }
 
-/// The dearer of the dearest so far and the atoms of a batch.
+/// The dearest of what was found so far and the atoms of a batch.
 fn dearer(table: &CostTable, so_far: Dearest, batch: &[u16]) -> Dearest {
     let mut dearest = so_far;
     for atom in batch {

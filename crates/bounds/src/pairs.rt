@@ -36,7 +36,7 @@ struct Front {
     told: [AtomSet; 256],
 }
 
-/// The atoms that are settled together with every one of a set.
+/// The atoms that are settled alone, and together with every one of a set.
 fn beside(front: &Front, atoms: AtomSet) -> AtomSet {
     let mut common = front.single;
     let mut rest = atoms;
@@ -217,7 +217,7 @@ fn put_in_rows(front: &mut Front, atom: usize, others: AtomSet) {
     }
 }
 
-/// Settles the sets of up to a cost, and tells the atoms whose rows have changed.
+/// Settles the sets that cost a given cost at most, and tells the atoms whose rows have changed.
 fn settle(table: &CostTable, front: &mut Front, atoms: usize, now: u32) -> AtomSet
     requires { atoms ≤ 64 }
 {
@@ -248,8 +248,8 @@ fn next_turn(front: &Front, goal: AtomSet) -> Option<u32> {
     if least == NONE { None } else { Some(least) }
 }
 
-/// Settles the sets of up to a cost, and looks at the actions that need one of them: at every action in the first turn, and
-/// where an atom was settled alone, since every action may take it along.
+/// Settles the sets that cost a given cost at most, and looks at the actions that need an atom of them: at every action in
+/// the first turn, and where an atom was settled alone, since every action may take it along.
 fn turn(
     table: &mut CostTable,
     front: &mut Front,
@@ -293,7 +293,7 @@ fn value(table: &CostTable, atoms: usize, set: AtomSet) -> u32
     top
 }
 
-/// The bound over sets of one or two atoms, or none.
+/// The bound over sets of one or two atoms, or the number that stands for none.
 pub(crate) fn pairs_bound(table: &mut CostTable, task: &RowTable) -> u32 {
     let atoms = task.atoms();
     let start = task.set_of(Part::Start);

@@ -11,7 +11,8 @@ const BLOCK: usize = 64;
 
 const BLOCKS: usize = 4;
 
-/// For each atom the actions that need it, in blocks of 64 actions: action a of block b has the number 64 b + a.
+/// For each atom the actions that need it, in blocks of 64 actions: action a of block b has the number 64 b + a. A set of
+/// actions of a block is an `AtomSet` whose members are those numbers a.
 #[derive(Clone, Copy)]
 pub(crate) struct Readers {
     blocks: [[AtomSet; 64]; 4],

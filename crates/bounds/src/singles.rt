@@ -17,7 +17,7 @@ fn lower_all(table: &mut CostTable, atoms: AtomSet, cost: u32) {
     }
 }
 
-/// Looks at an action: where all it needs is settled, what it adds costs so much more.
+/// Looks at an action: where all it needs is settled, what it adds costs at most what is settled now and the action.
 fn look_at(table: &mut CostTable, task: &RowTable, settled: AtomSet, action: usize, now: u32) {
     let row = task.row(action);
     if row.needs.is_inside(settled) {
@@ -86,7 +86,7 @@ fn least_cost(table: &CostTable, atoms: usize, settled: AtomSet) -> u32 {
     least
 }
 
-/// The atoms of up to a cost.
+/// The atoms that cost a given cost at most.
 fn up_to(table: &CostTable, atoms: usize, now: u32) -> AtomSet {
     let mut reached = AtomSet::EMPTY;
     for atom in 0..atoms {
@@ -111,7 +111,7 @@ fn value(table: &CostTable, set: AtomSet) -> u32 {
     top
 }
 
-/// The bound over single atoms, or none.
+/// The bound over single atoms, or the number that stands for none.
 pub(crate) fn singles_bound(table: &mut CostTable, task: &RowTable) -> u32 {
     let atoms = task.atoms();
     let goal = task.set_of(Part::Goal);

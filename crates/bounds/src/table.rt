@@ -25,7 +25,7 @@ pub(crate) fn pair_number(atoms: usize, low: usize, high: usize) -> usize
     row_start(atoms, high) + low
 }
 
-/// A cost, or none, for every set of atoms, by the set's number.
+/// A cost, or none, for every set of one or two atoms, by the set's number.
 #[derive(Clone, Copy)]
 pub struct CostTable {
     entries: [u32; 2080],

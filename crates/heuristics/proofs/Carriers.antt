@@ -16,7 +16,7 @@ unfolding flat
 first_is m t zero = refl
 first_is m t (suc a) = length-append (flat a (carriers m t)) (carriers m t a) ∙ (let p : length (flat a (carriers m t)) ≡ first_carrier m t a = first_is m t a in let q : length (carriers m t a) ≡ length (cargo t.atoms m (t.action a)) = carriers_length m t a in omega arith)
 
--- what a takes along the j-th is the compiled task's action of number first-carrier + j
+-- what a takes along the j-th is the compiled task's action of number first_carrier + j
 module _ (m : ℕ) (t : Task) (a j : ℕ) (known : a < t.actions) (l : j < length (cargo t.atoms m (t.action a))) where
   pub carrier_known : first_carrier m t a + j < (compiled m t).actions
   carrier_known =

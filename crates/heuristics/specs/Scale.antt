@@ -18,7 +18,7 @@ pub record ScaleLaws (S : Scale) : Type 0 where
 abbrev pub added : ℕ → Scale
 added top = record { none = top; extend = λ v c. min top (v + c) }
 
--- tenths of a second: none stands behind every number of 32 bits but the last
+-- tenths of a second: none is the last number of 32 bits
 abbrev pub tenths : Scale
 tenths = added 4294967295
 

@@ -38,7 +38,8 @@ RoundsEnd = (S : Scale) → ScaleLaws S → (m : ℕ) (t : Task) → Settling S 
 abbrev pub OneBound : Type 0
 OneBound = (S : Scale) → ScaleLaws S → (m : ℕ) (t : Task) → Bound S m t (bound_of S m t) × ((b : ℕ) → Bound S m t b → b ≡ bound_of S m t)
 
--- Where no action costs more than `dearest`, an entry that is not none is at most so much for each entry.
+-- Where no action costs more than `dearest`, an entry of the largest table that is not none is at most `dearest` times the
+-- number of entries.
 abbrev pub FiniteEntries : Type 0
 FiniteEntries = (top m : ℕ) (t : Task) (dearest : ℕ) → ((a : ℕ) → a < t.actions → (t.action a).cost ≤ dearest) → (U : Table) → Largest (added top) m t U → (i : ℕ) → i < entries m t → U i < top → U i ≤ entries m t * dearest
 

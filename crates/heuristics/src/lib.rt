@@ -25,7 +25,7 @@ pub fn bound_is_one() -> bool
     true
 }
 
-/// Costs in a table stay far below none.
+/// A cost in the largest lawful table is at most the number of entries times the dearest action.
 pub fn entries_finite() -> bool
     ensures { FiniteEntries }
 {

@@ -18,7 +18,8 @@ abbrev pub FirstFrom : Atoms → ℕ → Option ℕ → Type 0
 FirstFrom A from None = (p : ℕ) → from ≤ p → A p ≡ false
 FirstFrom A from (Some q) = (from ≤ q) × (A q ≡ true) × ((p : ℕ) → from ≤ p → p < q → A p ≡ false)
 
--- A, taken apart: its first atom, which is below 64, and the others. Their number is less, so that a loop over them ends.
+-- A, taken apart: its first atom, which is below 64, and the others. The number that stands for them
+-- is less, so that a loop over them ends.
 pub record Parted (A : Atoms) (p : ℕ) (others : Atoms) : Type 0 where
   pub below : p < 64
   pub is_in : A p ≡ true

@@ -23,7 +23,7 @@ impl AtomSet {
         Self { bits }
     }
 
-    /// The set of the atoms below n, at most 64.
+    /// The set of the atoms below n; those of 64 or more are left out.
     pub fn first(n: usize) -> AtomSet
         ensures { members result ≡ clipped 64 (below n) }
     {
