@@ -8,7 +8,7 @@ use crate::{CostTable, NONE, Order};
 use strips::{Denial, RowTable, Task};
 
 /// The bound over sets of 1 to `order` atoms, or none: the goal's value once the goal's sets are settled. The lent table is
-/// empty afterwards.
+/// empty after an answer, and as it was after a refusal.
 pub fn direct_bound<T: Task>(
     table: &mut CostTable,
     task: &T,
