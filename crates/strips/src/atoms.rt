@@ -7,7 +7,7 @@ ghost use Rattle.strips.specs.Parts.{FirstFrom, Parted};
 use crate::masks;
 
 /// A set of atoms below 64.
-#[derive(Clone, Copy, PartialEq, Eq)]
+#[derive(Clone, Copy, Debug, PartialEq, Eq)]
 pub struct AtomSet {
     bits: u64,
 }
