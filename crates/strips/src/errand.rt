@@ -4,7 +4,7 @@ ghost use Rattle.strips.specs.Bits.{members};
 ghost use Rattle.strips.specs.Layers.{with_errand, errand_task, errand_denied};
 ghost use Rattle.strips.specs.Soundness.{errand_sound};
 
-use crate::{AtomSet, Denial, Part, Row, Task};
+use crate::{AtomSet, Denial, Part, Row, Task, is_small};
 
 /// A task of at most 64 atoms and 256 actions, asked from another start and for another goal.
 #[derive(Drop)]
@@ -22,10 +22,10 @@ impl<T: Task + Drop> Errand<T> {
             × (errand_task (T.Task.meaning e.task) (members e.start) (members e.goal) ≡ with_errand (T.Task.meaning task) (members start) (members goal)))
             (λ d. errand_denied (T.Task.meaning task) (members start) (members goal) ≡ Some d) }
     {
-        let atoms = task.atoms();
-        if atoms > 64 || task.actions() > 256 {
+        if !is_small(&task) {
             return Err(Denial::TaskOutOfRange);
         }
+        let atoms = task.atoms();
         if !start.is_below(atoms) || !goal.is_below(atoms) {
             return Err(Denial::AtomOutOfRange);
         }

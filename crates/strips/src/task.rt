@@ -57,25 +57,20 @@ pub trait Task {
     fn set_of(&self, part: Part) -> AtomSet
         ensures { members result ≡ clipped 64 (part_of (meaning self.now) part) }
     {
-        let mut bits = 0u64;
-        for atom in 0..64usize {
+        let mut set = AtomSet::EMPTY;
+        for atom in 0..64 {
             if self.holds(part, atom) {
-                bits |= 1 << atom;
+                set = set.with(atom);
             }
         }
-        AtomSet::from_bits(bits)
+        set
     }
 
     /// The first atom at or after `from` of one of the task's sets.
     fn next_of(&self, part: Part, from: usize) -> Option<usize>
         ensures { FirstFrom (part_of (meaning self.now) part) from result }
     {
-        for atom in from..self.atoms() {
-            if self.holds(part, atom) {
-                return Some(atom);
-            }
-        }
-        None
+        (from..self.atoms()).find(|&atom| self.holds(part, atom))
     }
 
     /// Lists the first atoms at or after `from` of one of the task's sets, in rising order, and tells how many.
