@@ -1,5 +1,5 @@
 -- What the operations on numbers do to the sets of their bits.
-use Rattle.std.proofs.Common.{◌≡◌, ℕ, ◌+◌, ◌-◌, ◌*◌, ◌/◌, ◌%◌, ◌^◌, ◌<◌, ◌≤◌, ◌≢◌, Bool, true, false, not, ◌&&◌, ◌||◌, eqb, ltb, ◌⊎◌, Some, sym, refl, ap, ◌∙◌, subst, inl, inr, ⊎_elim, true≢false, zero-mul, add-one, arith, ltb-true, le-ltb, lt-ltb, eq-eqb, ne_eqb, eqb-true}
+use Rattle.std.proofs.Common.{◌≡◌, ℕ, ◌+◌, ◌-◌, ◌*◌, ◌/◌, ◌%◌, ◌^◌, ◌<◌, ◌≤◌, ◌≢◌, Bool, true, false, not, ◌&&◌, ◌||◌, eqb, ltb, ◌⊎◌, Some, sym, refl, ap, ◌∙◌, subst, inl, inr, ⊎_elim, true≢false, zero-mul, arith, ltb-true, le-ltb, lt-ltb, eq-eqb, ne_eqb, eqb-true}
 use lib.Count.{count_trailing_zeros}
 use lib.Bits.{bit_and, bit_or, bit_xor}
 use Rattle.std.proofs.lemmas.Bool.{cases_lt, cases_eq, cases_Bool, and_parts, and_from, not_from_true, not_from_false}
@@ -7,7 +7,7 @@ use Rattle.std.proofs.lemmas.Nat.{and_le_l, and_le_r, shr_le, shr-shr, pow_pos, 
 use Rattle.strips.specs.Sets.{Atoms, joined, common, without, clipped, first, plus, less, Within, inside, meets}
 use Rattle.strips.specs.Bits.{bit, bits_of, number}
 use Rattle.strips.specs.Parts.{FirstFrom, Parted}
-use Rattle.strips.proofs.Binary.{lowest_bit, cleared, number_below, number_bit, number_all, or_above, bit-bit_and, bit-bit_or, bit_cut, bit_pow, same_number, high_none, none_bit, number_of_bits, inside_each, inside_from, meets_from, meets_none, same_test}
+use Rattle.strips.proofs.Binary.{lowest_bit, cleared, number_bit, number_all, bit-bit_and, bit-bit_or, bit_cut, bit_pow, same_number, high_none, none_bit, number_of_bits, inside_each, inside_from, meets_from, meets_none, same_test}
 
 none : (b : Bool) → (b && false) ≡ false
 none true = refl

@@ -1,4 +1,4 @@
-use Rattle.std.proofs.Common.{rules, ◌≡◌, ◌≤◌, arith}
+use Rattle.std.proofs.Common.{rules, ◌≡◌, arith}
 use Rattle.strips.specs.Rows.{row_action}
 use Rattle.strips.proofs.Layered.{small_parts}
 use Rattle.strips.proofs.Rowed.{made_each, copied_all, row_whole}

@@ -1,8 +1,6 @@
-use Rattle.std.proofs.Common.{◌≤◌, List, sym, ap, ◌∙◌, subst, arith}
+use Rattle.std.proofs.Common.{◌≤◌, arith}
 use Rattle.strips.specs.Sets.{Within, Apart}
 use Rattle.strips.specs.Bits.{members}
-use Rattle.strips.specs.Rows.{rows_task, AllWithin, AllApart, AllCheap}
-use Rattle.strips.specs.declared.row.Row.{Row}
 use Rattle.strips.proofs.Rowed.{empty_none, blank_each, blank_made}
 use Rattle.strips.proofs.filling.blank.Goals as goal
 
