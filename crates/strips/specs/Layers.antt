@@ -9,10 +9,6 @@ use Rattle.strips.specs.declared.denial.Denial.TheVariants.{AtomOutOfRange, NoSu
 abbrev pub with_errand : Task → Atoms → Atoms → Task
 with_errand t s g = record { atoms = t.atoms; actions = t.actions; action = t.action; start = s; goal = g }
 
--- the same, of whatever sets: their atoms that the task has
-abbrev pub errand_task : Task → Atoms → Atoms → Task
-errand_task t s g = with_errand t (clipped t.atoms s) (clipped t.atoms g)
-
 -- what an errand is refused for
 abbrev pub errand_denied : Task → Atoms → Atoms → Option Denial
 errand_denied t s g = cond (small t) (cond (inside 64 s (first t.atoms) && inside 64 g (first t.atoms)) None (Some AtomOutOfRange)) (Some TaskOutOfRange)
