@@ -1,5 +1,5 @@
 -- What the making of a layer shows.
-use Rattle.std.proofs.Common.{◌≡◌, ℕ, ◌<◌, ◌≤◌, Bool, true, false, cond, leb, ◌⊎◌, get_or, replicate, None, sym, ap, ◌∙◌, subst, inl, inr, ⊎_elim, true≢false, arith, ltb-true, lt-ltb, le-leb, leb-true}
+use Rattle.std.proofs.Common.{◌≡◌, ℕ, ◌<◌, ◌≤◌, Bool, true, false, cond, leb, ◌⊎◌, get_or, replicate, sym, ◌∙◌, subst, inl, inr, ⊎_elim, true≢false, arith, ltb-true, lt-ltb, le-leb, leb-true}
 use lib.ListN.{get_or-replicate, length-replicate}
 use Rattle.std.proofs.lemmas.List.{get_or_past}
 use Rattle.std.proofs.lemmas.Bool.{and_from, and_parts, cases_lt, cases_Bool}
@@ -17,6 +17,10 @@ is_small t a b = and_from (leb t.atoms 64) (leb t.actions 256) (le-leb t.atoms 6
 
 pub small_parts : (t : Task) → small t ≡ true → (t.atoms ≤ 64) × (t.actions ≤ 256)
 small_parts t e = let h = and_parts (leb t.atoms 64) (leb t.actions 256) e in (leb-true t.atoms 64 h.0, leb-true t.actions 256 h.1)
+
+-- what the test for atoms below n says
+pub below_within : (n : ℕ) (A : Atoms) → Within 64 A → true ≡ inside 64 A (first n) → Within n A
+below_within n A w e p h = ltb-true p n (inside_each 64 A (first n) (sym e) p (w p h) h)
 
 -- the marks of no closed action
 pub none_closed : closed_of (record { marks = replicate 256 false }) ≡ (λ _. false)

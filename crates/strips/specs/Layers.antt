@@ -1,6 +1,6 @@
 -- Tasks made of a task.
 use Rattle.std.specs.Prelude.{ℕ, Bool, cond, ◌&&◌, Some, None, Option}
-use Rattle.strips.specs.Sets.{Atoms, nothing, clipped, first, inside}
+use Rattle.strips.specs.Sets.{Atoms, nothing, first, inside}
 use Rattle.strips.specs.Task.{Action, Task, small}
 use Rattle.strips.specs.declared.denial.Denial.{Denial}
 use Rattle.strips.specs.declared.denial.Denial.TheVariants.{AtomOutOfRange, NoSuchNumber, TaskOutOfRange}
