@@ -1,6 +1,7 @@
 -- The task that a view means.
 use Rattle.std.proofs.Common.{◌≡◌, ℕ, ◌-◌, ◌^◌, ◌<◌, ◌≤◌, min, Bool, true, false, cond, not, ◌&&◌, ◌⊎◌, List, [], length, get_or, take, drop, Some, None, Ok, Err, Option, Result, sym, refl, ap, ◌∙◌, subst, inl, inr, ⊎_elim, true≢false, arith}
 use native.Mathlib.Nat.{min-eq_left}
+use Rattle.std.specs.Result.{IfOk, result_unwrap_or}
 use Rattle.std.proofs.ByRecursion.{All-get_or}
 use Rattle.std.proofs.lemmas.List.{take_rest, drop_all}
 use Rattle.std.proofs.lemmas.Bool.{cases_lt, and_parts, cond-true, cond-false, lt-ltb, le-ltb}
@@ -19,9 +20,10 @@ use Rattle.strips.proofs.Layered.{below_within}
 use Rattle.taskfile.specs.Content.{Entry, Content, entry_of, entry_action, task_of, blank}
 use Rattle.taskfile.specs.Format.{Accepted}
 use Rattle.taskfile.specs.Reading.{Bytes, set_at, entry, records, header, content}
-use Rattle.taskfile.specs.Reads.{Placed}
+use Rattle.taskfile.specs.Reads.{Placed, Reads}
 use Rattle.taskfile.specs.View.{action_or_none, below_or_none, raw, view_task}
 use Rattle.taskfile.specs.declared.fault.Fault.{Fault}
+use Rattle.taskfile.specs.declared.reader.Reader.{Reader}
 use Rattle.taskfile.specs.declared.view.FileView.{FileView}
 use Rattle.taskfile.proofs.Contents.{WellEntry, Well, same_action, same_task, set_back, within_members, below_number, row_back, sound_entry, sound_none}
 use Rattle.taskfile.proofs.Strict.{bytes_drop, entry_inv, entry_on, set_inv, records_inv, header_inv, content_sound}
@@ -118,6 +120,13 @@ module _ (v : FileView) where
 
 pub no_row : row_action (record { needs = record { bits = 0 }; adds = record { bits = 0 }; removes = record { bits = 0 }; cost = 0 }) ≡ no_action
 no_row = same_action _ no_action bits_none bits_none bits_none refl
+
+-- the row of a record that was read, and no row where it has a fault
+pub row_out : (v : FileView) → v.atoms < 256 → (a place : ℕ) → place ≡ min (get_or v.places a 0) (length v.records.now) → a < min v.actions 256 → (r s : Reader) (q : Result Row Fault)
+    → Reads (λ x. entry_of (row_action x)) r s q (entry v.atoms (length v.records.now) (Some a) (take (length v.records.now - place) (drop place v.records.now)))
+    → IfOk q (λ x. SoundAction v.atoms (row_action x)) → row_action (result_unwrap_or q (record { needs = record { bits = 0 }; adds = record { bits = 0 }; removes = record { bits = 0 }; cost = 0 })) ≡ (view_task v).action a
+row_out v few a place here l r s (Ok x) e sound = row_shown v few a place here l x _ sound e.0
+row_out v few a place here l r s (Err f) e sound = no_row ∙ sym (none_shown v few a place here l f e)
 
 -- a set of atoms below 64 is all there
 pub held : (s : AtomSet) (A : Atoms) → members s ≡ A → members s ≡ clipped 64 A

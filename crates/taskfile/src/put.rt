@@ -6,7 +6,7 @@ ghost use Rattle.taskfile.specs.Content.{entry_of};
 ghost use Rattle.taskfile.specs.Format.{high_first, unless, flag, entry_map, entry_bytes};
 ghost use Rattle.taskfile.specs.Writing.{written};
 
-use crate::fields::COST;
+use crate::reader::COST;
 use strips::{AtomSet, Row};
 
 // Writes 8 bytes at a place.

@@ -7,10 +7,9 @@ ghost use Rattle.taskfile.specs.Reading.{FaultOf};
 ghost use Rattle.taskfile.specs.View.{below_or_none, view_task, view_sound};
 
 use crate::fault::Fault;
-use crate::fields::set;
 use crate::header::{ACTIONS, read_header};
-use crate::records::{brings, record_at, records};
-use strips::{AtomSet, Denial, Part, Row, Task};
+use crate::reader::{Reader, brings};
+use strips::{AtomSet, Part, Row, Task};
 
 /// A file that was read through: its header, its records, and where each record begins.
 #[derive(Clone, Copy)]
@@ -28,24 +27,24 @@ impl<'a> FileView<'a> {
     pub fn open(bytes: &'a [u8]) -> Result<FileView<'a>, Fault>
         ensures { MatchResult result (λ v. Accepted bytes.now (view_task v)) (λ f. FaultOf bytes.now f) }
     {
-        let total = bytes.len();
         let (header, rest) = read_header(bytes)?;
-        let (start, rest) = set(brings(header.map, 0), total, header.atoms, None, rest)?;
-        let (goal, body) = set(brings(header.map, 1), total, header.atoms, None, rest)?;
-        let (places, rest) = records(total, header.atoms, header.actions, body)?;
-        if rest.len() > 0 {
-            return Err(Fault {
-                denial: Denial::BytesAfterEnd,
-                place: total - rest.len(),
-                action: None,
-            });
-        }
+        let mut reader = Reader {
+            total: bytes.len(),
+            atoms: header.atoms,
+            action: None,
+            rest,
+        };
+        let start = reader.set(brings(header.map, 0))?;
+        let goal = reader.set(brings(header.map, 1))?;
+        let records = reader.rest;
+        let places = reader.records(header.actions)?;
+        reader.finish()?;
         Ok(FileView {
             atoms: header.atoms,
             actions: header.actions,
             start,
             goal,
-            records: body,
+            records,
             places,
         })
     }
@@ -66,10 +65,13 @@ impl<'a> FileView<'a> {
         }
         let size = self.records.len();
         let place = self.places[action].min(size);
-        match record_at(size, self.atoms, action, &self.records[place..]) {
-            Ok((row, _)) => row,
-            Err(_) => Row::NONE,
-        }
+        let mut reader = Reader {
+            total: size,
+            atoms: self.atoms,
+            action: Some(action),
+            rest: &self.records[place..],
+        };
+        reader.record().unwrap_or(Row::NONE)
     }
 
     // The start or the goal. Opening has checked that the atoms are in range.

@@ -7,9 +7,9 @@ ghost use Rattle.taskfile.specs.Content.{entry_of, content_of};
 ghost use Rattle.taskfile.specs.Format.{unless, entry_bytes, encode};
 ghost use Rattle.taskfile.specs.Writing.{write_denied, written};
 
-use crate::fields::COST;
 use crate::header::{ACTIONS, ATOMS, VERSION};
 use crate::put::{put_row, put_set, put_two, set_flag};
+use crate::reader::COST;
 use strips::{AtomSet, Denial, Part, Row, Task};
 
 fn set_size(set: AtomSet) -> usize
