@@ -1,11 +1,10 @@
 -- Fields that are read one after another: a record, and the header by its bytes.
-use Rattle.std.proofs.Common.{◌≡◌, ℕ, suc, ◌+◌, ◌-◌, ◌*◌, ◌<◌, ◌≤◌, Bool, List, [], ◌∷◌, ◌++◌, length, get_or, drop, Some, None, Ok, Err, Option, Result, refl, ap, ◌∙◌, arith}
+use Rattle.std.proofs.Common.{◌≡◌, ℕ, suc, ◌+◌, ◌-◌, ◌*◌, ◌<◌, ◌≤◌, List, [], ◌∷◌, ◌++◌, length, get_or, drop, Some, None, Ok, Err, Result, refl, ap, ◌∙◌, arith}
 use Rattle.std.proofs.lemmas.Bool.{cond-true, cond-false, lt-ltb, le-ltb, le-leb, lt-leb, eq-eqb, ne_eqb}
 use Rattle.taskfile.specs.Content.{Entry}
 use Rattle.taskfile.specs.declared.fault.Fault.{Fault}
 use Rattle.strips.specs.declared.denial.Denial.TheVariants.{FileEnds, VersionUnknown, SizeOutOfRange, MapBitUnknown}
-use Rattle.strips.specs.Bits.{bit}
-use Rattle.taskfile.specs.Reading.{field, fault, then, map_denied, version_denied, size_denied, set_at, cost_at, apart_at, entry, records, header}
+use Rattle.taskfile.specs.Reading.{field, fault, then, map_denied, version_denied, size_denied, entry, records, header}
 use Rattle.taskfile.proofs.Field.{field_ends, field_denied, field_right, value_one, value_two}
 
 pub then_ok : {A B : Type 0} {r : Result A Fault} (k : A → Result B Fault) {x : A} → r ≡ Ok x → then r k ≡ k x

@@ -1,8 +1,6 @@
-use Rattle.std.proofs.Common.{◌≡◌, sym, ap, ◌∙◌, arith}
-use Rattle.std.proofs.lemmas.Bool.{cond-true, cond-false, eq-eqb, ne_eqb, eqb-true, eqb-false}
-use Rattle.strips.specs.Bits.{members, number}
+use Rattle.std.proofs.Common.{sym, ◌∙◌, arith}
+use Rattle.std.proofs.lemmas.Bool.{cond-true, cond-false}
 use Rattle.taskfile.specs.Reading.{set_denied}
-use Rattle.strips.proofs.Members.{bits_number}
 use Rattle.taskfile.proofs.Steps.{reads_err, next_ends, next_denied, next_right, set_value, tested, none_number}
 use Rattle.taskfile.proofs.reader.Reader.set_field.Goals as goal
 
