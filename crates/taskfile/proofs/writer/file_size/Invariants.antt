@@ -6,4 +6,4 @@ use Rattle.taskfile.proofs.writer.file_size.Given as goal
 
 abbrev pub invariant-loop-action : goal.invariant-loop-action
 invariant-loop-action g l =
-    l.size ≡ 5 + (length (unless 0 8 (number 64 (g.T.Task.meaning l.task).start)) + (length (unless 0 8 (number 64 (g.T.Task.meaning l.task).goal)) + length (front (g.T.Task.meaning l.task) l.action)))
+    l.bytes ≡ 5 + (length (unless 0 8 (number 64 (g.T.Task.meaning l.task).start)) + (length (unless 0 8 (number 64 (g.T.Task.meaning l.task).goal)) + length (front (g.T.Task.meaning l.task) l.action)))
