@@ -6,7 +6,8 @@ use borrow.Rule.Slice.PartMut.{put_mid}
 use Rattle.std.proofs.lemmas.List.{take-append-drop, take_at, drop_at, drop-drop, length-take-le, set_split, flat_map_more}
 use Rattle.std.proofs.lemmas.Nat.{div-mul-add, mod-mul-add, mod_below}
 use Rattle.std.proofs.lemmas.Bool.{eq-eqb, ne_eqb, cases_Bool}
-use Rattle.std.specs.List.{range_with_len, flat_map}
+use Rattle.std.specs.List.{range_with_len, flat_map, fold, sum_by}
+use Rattle.std.proofs.lemmas.List.Concat.{length-flat_map}
 use Rattle.std.proofs.lemmas.List.FromFn.{map-range_with_len_more, take-map-range_with_len}
 use Rattle.taskfile.specs.Content.{Entry}
 use Rattle.strips.specs.Sets.{Atoms, clipped}
@@ -179,9 +180,20 @@ front_small t (suc i) =
     let n = ap (λ j. length (front t j)) (add-one i) in
     omega arith
 
+sum_map : {X Y : Type 0} (h : Y → ℕ) (f : X → Y) (n : ℕ) (xs : List X) → fold (λ a y. a + h y) n (map f xs) ≡ fold (λ a x. a + h (f x)) n xs
+sum_map h f n [] = refl
+sum_map h f n (x ∷ xs) = sum_map h f (n + h (f x)) xs
+
+pub front_sum : (t : Task) (i : ℕ) → sum_by (λ a. length (entry_bytes (entry_of (t.action a)))) (range_with_len 0 i) ≡ length (front t i)
+front_sum t i =
+    sym (length-flat_map entry_bytes (map (λ a. entry_of (t.action a)) (range_with_len 0 i)) ∙ sum_map (λ e. length (entry_bytes e)) (λ a. entry_of (t.action a)) 0 (range_with_len 0 i))
+
 -- the record of a row that the task answers
 row_entry : (r : Row) (a : Action) → row_action r ≡ clipped_action 64 a → entry_of (row_action r) ≡ entry_of a
 row_entry r a e = ap entry_of e ∙ λ i. record { needs = number_clipped a.needs i; adds = number_clipped a.adds i; removes = number_clipped a.removes i; cost = a.cost }
+
+pub row_bytes : (a : Action) (r : Row) (n : ℕ) → n ≡ length (entry_bytes (entry_of (row_action r))) → row_action r ≡ clipped_action 64 a → n ≡ length (entry_bytes (entry_of a))
+row_bytes a r n e h = e ∙ ap (λ x. length (entry_bytes x)) (row_entry r a h)
 
 pub row_front : (t : Task) (i : ℕ) (r : Row) → row_action r ≡ clipped_action 64 (t.action i) → front t i ++ entry_bytes (entry_of (row_action r)) ≡ front t (i + 1)
 row_front t i r e = ap (λ x. front t i ++ entry_bytes x) (row_entry r (t.action i) e) ∙ sym (front_more t i)

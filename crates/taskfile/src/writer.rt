@@ -1,5 +1,5 @@
 //! The file of a task, written to a buffer.
-ghost use Rattle.std.specs.Prelude.{◌≡◌, ◌+◌, ◌≤◌, ◌++◌, length, drop, Some, None, MatchResult};
+ghost use Rattle.std.specs.Prelude.{◌≡◌, ◌+◌, ◌*◌, ◌≤◌, ◌++◌, length, drop, Some, None, MatchResult};
 ghost use Rattle.std.specs.List.{flat_map};
 ghost use Rattle.taskfile.specs.Content.{content_of};
 ghost use Rattle.taskfile.specs.Format.{entry_bytes, encode};
@@ -9,6 +9,17 @@ use crate::header::{ACTIONS, ATOMS, VERSION};
 use crate::put::{flag, put, put_row, row_size, set_field, size};
 use strips::{Denial, Part, Task};
 
+// How many bytes the records have.
+fn records_size<T: Task>(task: &T) -> usize
+    requires { (T.Task.meaning task.now).actions ≤ 256 }
+    ensures is { result ≡ length (flat_map entry_bytes (content_of (T.Task.meaning task.now)).entries) }
+    ensures small { result ≤ 27 * 256 }
+{
+    (0..task.actions())
+        .map(|action| row_size(task.row(action)))
+        .sum()
+}
+
 // How many bytes the file has.
 fn file_size<T: Task>(task: &T) -> usize
     requires { (T.Task.meaning task.now).actions ≤ 256 }
@@ -16,11 +27,7 @@ fn file_size<T: Task>(task: &T) -> usize
 {
     let start = set_field(task.set_of(Part::Start));
     let goal = set_field(task.set_of(Part::Goal));
-    let mut bytes = 5 + size(start) + size(goal);
-    for action in 0..task.actions() {
-        bytes += row_size(task.row(action));
-    }
-    bytes
+    5 + size(start) + size(goal) + records_size(task)
 }
 
 // Writes the records from a place on.
