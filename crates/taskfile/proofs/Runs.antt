@@ -1,5 +1,5 @@
 -- Records that are read one after another.
-use Rattle.std.proofs.Common.{◌≡◌, ℕ, ◌+◌, ◌-◌, ◌<◌, ◌≢◌, List, [], ◌∷◌, ◌++◌, length, get_or, drop, set, Some, Ok, Result, sym, ap, ◌∙◌, arith, below_more}
+use Rattle.std.proofs.Common.{◌≡◌, ℕ, ◌+◌, ◌-◌, ◌<◌, ◌≤◌, ◌≢◌, List, [], ◌∷◌, ◌++◌, length, get_or, drop, set, Some, Ok, Result, sym, ap, ◌∙◌, arith, below_more}
 use Rattle.std.proofs.lemmas.List.{length-set, length_push, get_or_push, get_or_append_left, get_or-set_same, get_or-set_other, drop-drop}
 use Rattle.taskfile.specs.Content.{Entry, blank}
 use Rattle.taskfile.specs.declared.fault.Fault.{Fault}
@@ -26,6 +26,7 @@ pub record SoFar (n len k i : ℕ) (b places rest : List ℕ) : Type 0 where
   pub goes_on : records n len k 0 [] b ≡ records n len (k - i) i done rest
   pub left : LeftOf b rest
   pub table : length places ≡ k
+  pub inside : (j : ℕ) → j < i → get_or places j 0 ≤ length b
   pub placed : (j : ℕ) → j < i → (r : List ℕ) × (entry n len (Some j) (drop (get_or places j 0) b) ≡ Ok (get_or done j blank, r))
 
 pub so_far_more : (n len k i : ℕ) (b places rest : List ℕ) (e : Entry) (next : List ℕ) → i < k → SoFar n len k i b places rest → entry n len (Some i) rest ≡ Ok (e, next) → LeftOf rest next →
@@ -39,6 +40,10 @@ so_far_more n len k i b places rest e next l s q m =
       goes_on = s.goes_on ∙ records_more n len k i s.done rest e next l q;
       left = left_on b rest next s.left m;
       table = length-set places i at ∙ s.table;
+      inside =
+          below_more (λ j. get_or (set places i at) j 0 ≤ length b) i
+          (λ j lt. let ne : j ≢ i = omega arith in rw (get_or-set_other places i j at 0 ne) (s.inside j lt))
+          (rw (get_or-set_same places i at 0 room) (omega arith));
       placed =
           below_more (λ j. (r : List ℕ) × (entry n len (Some j) (drop (get_or (set places i at) j 0) b) ≡ Ok (get_or (s.done ++ e ∷ []) j blank, r))) i
           (λ j lt.
@@ -58,3 +63,6 @@ so_far_more n len k i b places rest e next l s q m =
 -- what more places there are does not matter
 pub all_placed : (n len j : ℕ) (b places more : List ℕ) {x : Result (Entry × List ℕ) Fault} → j < length places → entry n len (Some j) (drop (get_or places j 0) b) ≡ x → entry n len (Some j) (drop (get_or (places ++ more) j 0) b) ≡ x
 all_placed n len j b places more l e = ap (λ p. entry n len (Some j) (drop p b)) (get_or_append_left places more 0 j l) ∙ e
+
+pub still_inside : (j : ℕ) (b places more : List ℕ) → j < length places → get_or places j 0 ≤ length b → get_or (places ++ more) j 0 ≤ length b
+still_inside j b places more l h = rw (get_or_append_left places more 0 j l) h

@@ -36,5 +36,5 @@ pub record Placed (n len : ℕ) (b : List ℕ) (places : List ℕ) (es : List En
 abbrev pub ReadsRecords : Reader → Reader → Result (List ℕ) Fault → ℕ → Type 0
 ReadsRecords old new (Ok places) k =
     (es : List Entry) × (records old.atoms old.total k 0 [] old.rest.now ≡ Ok (es, new.rest.now)) × Placed old.atoms old.total old.rest.now places es
-    × (new.total ≡ old.total) × (new.action ≡ None)
+    × ((i : ℕ) → i < k → slice_index places i ≤ length old.rest.now) × (new.total ≡ old.total) × (new.action ≡ None)
 ReadsRecords old new (Err f) k = records old.atoms old.total k 0 [] old.rest.now ≡ Err f

@@ -1,6 +1,6 @@
 use Rattle.std.proofs.Common.{◌<◌, ◌≤◌, ◌∙◌, refl, arith}
 use Rattle.taskfile.proofs.Chain.{records_err, records_all}
-use Rattle.taskfile.proofs.Runs.{so_far_more, all_placed}
+use Rattle.taskfile.proofs.Runs.{so_far_more, all_placed, still_inside}
 use Rattle.taskfile.proofs.Steps.{records_fault, entry_from}
 use Rattle.taskfile.proofs.reader.Reader.records.Goals as goal
 
@@ -30,6 +30,7 @@ returns c =
       s.done,
       s.goes_on ∙ records_all _ _ _ _ _ _ done,
       record { each = λ j l. let p = s.placed j (omega arith) in (p.0, all_placed _ _ j _ c.loop-action.place-items _ (omega arith) p.1) },
+      λ j l. still_inside j _ c.loop-action.place-items _ (omega arith) (s.inside j (omega arith)),
       i.1,
       refl,
     )

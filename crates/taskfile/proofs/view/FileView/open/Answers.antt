@@ -40,7 +40,7 @@ returns-in_err-finish c =
     _ _ _ c.brings-2.ensures (set_from _ _ start.1 _ goal.0)
     _ _ (records_from _ _ m _ all.1)
     ∙ ended_not _ _ _ _ _ _ c.in_err-finish.ensures.0
-    ∙ ap Err (after_fault c.records.new.self _ _ (all.3 ∙ m.total_same) all.4 c.in_err-finish.ensures.1))
+    ∙ ap Err (after_fault c.records.new.self _ _ (all.4 ∙ m.total_same) all.5 c.in_err-finish.ensures.1))
 
 pub returns : goal.returns
 returns c =
