@@ -1,11 +1,10 @@
 -- Fields that are read one after another: a record, and the header by its bytes.
-use Rattle.std.proofs.Common.{◌≡◌, ℕ, suc, ◌+◌, ◌-◌, ◌*◌, ◌<◌, ◌≤◌, Bool, List, [], ◌∷◌, ◌++◌, length, get_or, drop, Some, None, Ok, Err, Option, Result, refl, ap, ◌∙◌, arith}
+use Rattle.std.proofs.Common.{◌≡◌, ℕ, suc, ◌+◌, ◌-◌, ◌*◌, ◌<◌, ◌≤◌, List, [], ◌∷◌, ◌++◌, length, get_or, drop, Some, None, Ok, Err, Result, refl, ap, ◌∙◌, arith}
 use Rattle.std.proofs.lemmas.Bool.{cond-true, cond-false, lt-ltb, le-ltb, le-leb, lt-leb, eq-eqb, ne_eqb}
 use Rattle.taskfile.specs.Content.{Entry}
 use Rattle.taskfile.specs.declared.fault.Fault.{Fault}
 use Rattle.strips.specs.declared.denial.Denial.TheVariants.{FileEnds, VersionUnknown, SizeOutOfRange, MapBitUnknown}
-use Rattle.strips.specs.Bits.{bit}
-use Rattle.taskfile.specs.Reading.{field, fault, then, map_denied, version_denied, size_denied, set_at, cost_at, apart_at, entry, records, header}
+use Rattle.taskfile.specs.Reading.{field, fault, then, map_denied, version_denied, size_denied, entry, records, header}
 use Rattle.taskfile.proofs.Field.{field_ends, field_denied, field_right, value_one, value_two}
 
 pub then_ok : {A B : Type 0} {r : Result A Fault} (k : A → Result B Fault) {x : A} → r ≡ Ok x → then r k ≡ k x
@@ -15,37 +14,6 @@ then_ok k e = rw e refl
 pub then_err : {A B : Type 0} {r : Result A Fault} (k : A → Result B Fault) {f : Fault} → r ≡ Err f → then r k ≡ Err f
 unfolding then
 then_err k e = rw e refl
-
--- a record, as far as it was read
-module _ (n len : ℕ) (a : Option ℕ) (b : List ℕ) where
-  pub entry_map_err : {f : Fault} → field 1 (map_denied 4) len a b ≡ Err f → entry n len a b ≡ Err f
-  unfolding entry
-  entry_map_err e = then_err _ e
-
-  module _ (m : ℕ) (b1 : List ℕ) (e : field 1 (map_denied 4) len a b ≡ Ok (m, b1)) where
-    pub entry_needs_err : (p : Bool) {f : Fault} → p ≡ bit 0 m → set_at p n len a b1 ≡ Err f → entry n len a b ≡ Err f
-    unfolding entry
-    entry_needs_err p q e1 = then_ok _ e ∙ then_err _ (rw q at e1)
-
-    module _ (p1 : Bool) (needs : ℕ) (b2 : List ℕ) (q1 : p1 ≡ bit 0 m) (e1 : set_at p1 n len a b1 ≡ Ok (needs, b2)) where
-      pub entry_adds_err : (p : Bool) {f : Fault} → p ≡ bit 1 m → set_at p n len a b2 ≡ Err f → entry n len a b ≡ Err f
-      unfolding entry
-      entry_adds_err p q e2 = then_ok _ e ∙ then_ok _ (rw q1 at e1) ∙ then_err _ (rw q at e2)
-
-      module _ (p2 : Bool) (adds : ℕ) (b3 : List ℕ) (q2 : p2 ≡ bit 1 m) (e2 : set_at p2 n len a b2 ≡ Ok (adds, b3)) where
-        pub entry_removes_err : (p : Bool) {f : Fault} → p ≡ bit 2 m → set_at p n len a b3 ≡ Err f → entry n len a b ≡ Err f
-        unfolding entry
-        entry_removes_err p q e3 = then_ok _ e ∙ then_ok _ (rw q1 at e1) ∙ then_ok _ (rw q2 at e2) ∙ then_err _ (rw q at e3)
-
-        module _ (p3 : Bool) (removes : ℕ) (b4 : List ℕ) (q3 : p3 ≡ bit 2 m) (e3 : set_at p3 n len a b3 ≡ Ok (removes, b4)) where
-          pub entry_cost_err : (p : Bool) {f : Fault} → p ≡ bit 3 m → cost_at p len a b4 ≡ Err f → entry n len a b ≡ Err f
-          unfolding entry
-          entry_cost_err p q e4 = then_ok _ e ∙ then_ok _ (rw q1 at e1) ∙ then_ok _ (rw q2 at e2) ∙ then_ok _ (rw q3 at e3) ∙ then_err _ (rw q at e4)
-
-          module _ (p4 : Bool) (cost : ℕ) (b5 : List ℕ) (q4 : p4 ≡ bit 3 m) (e4 : cost_at p4 len a b4 ≡ Ok (cost, b5)) where
-            pub entry_read : entry n len a b ≡ apart_at (len - length b) a (record { needs = needs; adds = adds; removes = removes; cost = cost }) b5
-            unfolding entry
-            entry_read = then_ok _ e ∙ then_ok _ (rw q1 at e1) ∙ then_ok _ (rw q2 at e2) ∙ then_ok _ (rw q3 at e3) ∙ then_ok _ (rw q4 at e4)
 
 -- a run of records, one step on
 pub records_more : (n len k i : ℕ) (done : List Entry) (b : List ℕ) (r : Entry) (b1 : List ℕ) → i < k → entry n len (Some i) b ≡ Ok (r, b1) → records n len (k - i) i done b ≡ records n len (k - (i + 1)) (i + 1) (done ++ r ∷ []) b1

@@ -1,5 +1,5 @@
 -- One field of a file.
-use Rattle.std.proofs.Common.{◌≡◌, ℕ, ◌+◌, ◌-◌, ◌*◌, ◌^◌, ◌<◌, ◌≤◌, Bool, true, false, List, [], ◌∷◌, length, get_or, take, drop, Some, None, Ok, Err, Option, Result, sym, refl, ap, ◌∙◌, arith, length-drop}
+use Rattle.std.proofs.Common.{◌≡◌, ℕ, ◌+◌, ◌-◌, ◌*◌, ◌^◌, ◌<◌, ◌≤◌, Bool, true, false, List, [], ◌∷◌, length, get_or, take, drop, Some, None, Ok, Err, Option, Result, sym, refl, ap, ◌∙◌, arith}
 use Rattle.std.proofs.lemmas.Bool.{cond-true, cond-false, lt-ltb, le-ltb, ne_eqb}
 use Rattle.taskfile.specs.declared.fault.Fault.{Fault}
 use Rattle.strips.specs.declared.denial.Denial.{Denial}
@@ -44,9 +44,6 @@ value_one [] h = absurd (omega arith)
 
 pub set_right : (n s : ℕ) → s < 2 ^ n → (s ≡ 0 → ⊥) → set_denied n s ≡ None
 set_right n s h k = cond-true _ _ _ (lt-ltb _ _ h) ∙ cond-false _ _ _ (ne_eqb _ _ k)
-
-pub length_rest : (w len : ℕ) (b rest : List ℕ) → rest ≡ drop w b → length b ≤ len → length rest ≤ len
-length_rest w len b rest e h = rw e (simp length-drop (omega arith))
 
 pub optional_not : (p : Bool) (z : ℕ) (b : List ℕ) (r : Result (ℕ × List ℕ) Fault) → p ≡ false → optional p z b r ≡ Ok (z, b)
 optional_not p z b r e = rw e refl

@@ -4,6 +4,7 @@ pub mod Chain
 pub mod Strict
 pub mod Whole
 pub mod Stable
-pub mod Runs
 pub mod Views
 pub mod Writes
+pub mod Runs
+pub mod Steps

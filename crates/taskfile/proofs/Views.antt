@@ -1,8 +1,9 @@
 -- The task that a view means.
-use Rattle.std.proofs.Common.{◌≡◌, ℕ, ◌-◌, ◌^◌, ◌<◌, ◌≤◌, min, Bool, true, false, cond, not, ◌&&◌, ◌⊎◌, List, [], length, get_or, take, drop, Some, None, Ok, Err, Option, Result, sym, refl, ap, ◌∙◌, subst, inl, inr, ⊎_elim, true≢false, arith}
+use Rattle.std.proofs.Common.{◌≡◌, ℕ, ◌-◌, ◌<◌, ◌≤◌, min, Bool, true, false, cond, not, ◌&&◌, List, [], length, get_or, take, drop, Some, None, Ok, Err, Option, Result, sym, refl, ap, ◌∙◌, subst, ⊎_elim, true≢false, arith}
 use native.Mathlib.Nat.{min-eq_left}
+use Rattle.std.specs.Result.{IfOk, result_unwrap_or}
 use Rattle.std.proofs.ByRecursion.{All-get_or}
-use Rattle.std.proofs.lemmas.List.{take_rest, drop_all}
+use Rattle.std.proofs.lemmas.List.{take_rest}
 use Rattle.std.proofs.lemmas.Bool.{cases_lt, and_parts, cond-true, cond-false, lt-ltb, le-ltb}
 use Rattle.strips.specs.Sets.{Atoms, nothing, without, clipped, first, inside, Within}
 use Rattle.strips.specs.Task.{Action, SoundAction, no_action}
@@ -14,16 +15,18 @@ use Rattle.strips.specs.declared.atoms.AtomSet.{AtomSet}
 use Rattle.strips.specs.declared.part.Part.{Part}
 use Rattle.strips.specs.declared.part.Part.TheVariants.{Needs, Adds, Removes, Start, Goal}
 use Rattle.strips.specs.declared.row.Row.{Row}
+use Rattle.strips.proofs.Binary.{inside_from}
 use Rattle.strips.proofs.Members.{same_atoms, clipped_within, clipped_part, bits_none}
 use Rattle.strips.proofs.Layered.{below_within}
 use Rattle.taskfile.specs.Content.{Entry, Content, entry_of, entry_action, task_of, blank}
 use Rattle.taskfile.specs.Format.{Accepted}
 use Rattle.taskfile.specs.Reading.{Bytes, set_at, entry, records, header, content}
-use Rattle.taskfile.specs.Reads.{Placed}
+use Rattle.taskfile.specs.Reads.{Placed, Reads}
 use Rattle.taskfile.specs.View.{action_or_none, below_or_none, raw, view_task}
 use Rattle.taskfile.specs.declared.fault.Fault.{Fault}
+use Rattle.taskfile.specs.declared.reader.Reader.{Reader}
 use Rattle.taskfile.specs.declared.view.FileView.{FileView}
-use Rattle.taskfile.proofs.Contents.{WellEntry, Well, same_action, same_task, set_back, within_members, below_number, row_back, sound_entry, sound_none}
+use Rattle.taskfile.proofs.Contents.{WellEntry, Well, same_action, same_task, set_back, within_members, row_back, sound_entry, sound_none}
 use Rattle.taskfile.proofs.Strict.{bytes_drop, entry_inv, entry_on, set_inv, records_inv, header_inv, content_sound}
 use Rattle.taskfile.proofs.Whole.{all_read, ended_well, content_accepted}
 
@@ -51,37 +54,29 @@ below_in n s p h = go (inside 64 (members s) (first n)) refl h
     go true e k = (below_within n (members s) (within_members s) (sym e) p k, within_members s p k)
     go false e k = absurd (true≢false (sym k))
 
-drop_min : (p : ℕ) (b : List ℕ) → drop (min p (length b)) b ≡ drop p b
-drop_min p b = ⊎_elim
-    (λ l. ap (λ x. drop x b) (min-eq_left l))
-    (λ l. drop_all (min p (length b)) b (omega arith) ∙ sym (drop_all p b (omega arith)))
-    (cases_le p (length b))
-  where
-    cases_le : (m n : ℕ) → (m ≤ n) ⊎ (n < m)
-    cases_le m n = ⊎_elim (λ l. inr l) (λ l. inl l) (cases_lt n m)
-
 module _ (v : FileView) where
-  abbrev count : ℕ
-  count = min v.actions 256
-
-  pub view_actions : (view_task v).actions ≡ count
+  pub view_actions : (view_task v).actions ≡ v.actions
   unfolding view_task
-  view_actions = omega arith
+  view_actions = let h = v.few in omega arith
 
-  pub view_past : (a : ℕ) → count ≤ a → (view_task v).action a ≡ no_action
+  pub view_past : (a : ℕ) → v.actions ≤ a → (view_task v).action a ≡ no_action
   unfolding view_task
-  view_past a l = cond-false _ _ _ (le-ltb a (min count 16640) (omega arith))
+  view_past a l = cond-false _ _ _ (le-ltb a (min (min v.actions 256) 16640) (omega arith))
 
   set_kept : (s : AtomSet) → clipped (min v.atoms 2080) (below_or_none v.atoms (members s)) ≡ below_or_none v.atoms (members s)
   set_kept s = clipped_within (min v.atoms 2080) (below_or_none v.atoms (members s)) (λ p h. let a = (below_in v.atoms s p h).0 in let b = (below_in v.atoms s p h).1 in omega arith)
 
-  pub view_start : (view_task v).start ≡ below_or_none v.atoms (members v.start)
-  unfolding view_task
-  view_start = set_kept v.start
+  -- a set that the view holds is all there
+  all_in : (s : AtomSet) → Within v.atoms (members s) → below_or_none v.atoms (members s) ≡ members s
+  all_in s h = cond-true _ _ _ (inside_from 64 (members s) (first v.atoms) (λ p l e. lt-ltb p v.atoms (h p e)))
 
-  pub view_goal : (view_task v).goal ≡ below_or_none v.atoms (members v.goal)
+  pub view_start : (view_task v).start ≡ members v.start
   unfolding view_task
-  view_goal = set_kept v.goal
+  view_start = set_kept v.start ∙ all_in v.start v.start_in
+
+  pub view_goal : (view_task v).goal ≡ members v.goal
+  unfolding view_task
+  view_goal = set_kept v.goal ∙ all_in v.goal v.goal_in
 
   module _ (few : v.atoms < 256) where
     same_atoms_count : min v.atoms 2080 ≡ v.atoms
@@ -91,33 +86,40 @@ module _ (v : FileView) where
     unfolding view_task
     view_atoms = same_atoms_count
 
-    view_action : (a : ℕ) (x : Action) → a < count → (raw v).action a ≡ x → SoundAction v.atoms x → (view_task v).action a ≡ x
+    view_action : (a : ℕ) (x : Action) → a < v.actions → (raw v).action a ≡ x → SoundAction v.atoms x → (view_task v).action a ≡ x
     unfolding view_task
     view_action a x l e s =
-        cond-true _ _ _ (lt-ltb a (min count 16640) (omega arith))
+        cond-true _ _ _ (lt-ltb a (min (min v.actions 256) 16640) (let h = v.few in omega arith))
         ∙ (ap (trimmed_action (min v.atoms 2080)) e ∙ (ap (λ n. trimmed_action n x) same_atoms_count ∙ trimmed_same v.atoms x s))
 
     -- what reading the record of an action shows
-    module _ (a place : ℕ) (here : place ≡ min (get_or v.places a 0) (length v.records.now)) (l : a < count) where
+    module _ (a : ℕ) (l : a < v.actions) where
       abbrev record_bytes : List ℕ
-      record_bytes = take (length v.records.now - place) (drop place v.records.now)
+      record_bytes = take (length v.records.now - get_or v.places a 0) (drop (get_or v.places a 0) v.records.now)
 
       same_bytes : drop (get_or v.places a 0) v.records.now ≡ record_bytes
-      same_bytes = sym (take_rest v.records.now place ∙ (ap (λ p. drop p v.records.now) here ∙ drop_min (get_or v.places a 0) v.records.now))
+      same_bytes = sym (take_rest v.records.now (get_or v.places a 0))
 
       abbrev reading : List ℕ → Result (Entry × List ℕ) Fault
       reading b = entry v.atoms (length v.records.now) (Some a) b
 
-      pub row_shown : (r : Row) (rest : List ℕ) → SoundAction v.atoms (row_action r) → reading record_bytes ≡ Ok (entry_of (row_action r), rest) → row_action r ≡ (view_task v).action a
+      row_shown : (r : Row) (rest : List ℕ) → SoundAction v.atoms (row_action r) → reading record_bytes ≡ Ok (entry_of (row_action r), rest) → row_action r ≡ (view_task v).action a
       row_shown r rest s e = sym (view_action a (row_action r) l (ap (λ b. action_or_none (reading b)) same_bytes ∙ (ap action_or_none e ∙ row_back r)) s)
 
-      pub none_shown : (f : Fault) → reading record_bytes ≡ Err f → (view_task v).action a ≡ no_action
+      none_shown : (f : Fault) → reading record_bytes ≡ Err f → (view_task v).action a ≡ no_action
       none_shown f e = view_action a no_action l (ap (λ b. action_or_none (reading b)) same_bytes ∙ ap action_or_none e) (sound_none v.atoms)
 
 -- WHAT THE ANSWERS SHOW -----------------------------------------------------
 
 pub no_row : row_action (record { needs = record { bits = 0 }; adds = record { bits = 0 }; removes = record { bits = 0 }; cost = 0 }) ≡ no_action
 no_row = same_action _ no_action bits_none bits_none bits_none refl
+
+-- the row of a record that was read, and no row where it has a fault
+pub row_out : (v : FileView) → v.atoms < 256 → (a : ℕ) → a < v.actions → (r s : Reader) (q : Result Row Fault)
+    → Reads (λ x. entry_of (row_action x)) r s q (entry v.atoms (length v.records.now) (Some a) (take (length v.records.now - get_or v.places a 0) (drop (get_or v.places a 0) v.records.now)))
+    → IfOk q (λ x. SoundAction v.atoms (row_action x)) → row_action (result_unwrap_or q (record { needs = record { bits = 0 }; adds = record { bits = 0 }; removes = record { bits = 0 }; cost = 0 })) ≡ (view_task v).action a
+row_out v few a l r s (Ok x) e sound = row_shown v few a l x _ sound e.0
+row_out v few a l r s (Err f) e sound = no_row ∙ sym (none_shown v few a l f e)
 
 -- a set of atoms below 64 is all there
 pub held : (s : AtomSet) (A : Atoms) → members s ≡ A → members s ≡ clipped 64 A
@@ -175,8 +177,8 @@ opened v len es w many h placed =
     (sym (view_atoms v few))
     (let m = w.few_entries in let k = view_actions v in omega arith)
     (λ a. ⊎_elim (λ l. in_range a l) (λ l. past a l) (cases_lt a (length es)))
-    (set_shown v.start w.start_in ∙ sym (view_start v))
-    (set_shown v.goal w.goal_in ∙ sym (view_goal v))
+    (set_shown v.start ∙ sym (view_start v))
+    (set_shown v.goal ∙ sym (view_goal v))
   where
     few : v.atoms < 256
     few = let m = w.few_atoms_lem in omega arith
@@ -193,10 +195,8 @@ opened v len es w many h placed =
     past : (a : ℕ) → length es ≤ a → (task_of (view_content v es)).action a ≡ (view_task v).action a
     past a l = cond-false _ _ _ (le-ltb a (length es) l) ∙ sym (view_past v a (let m = w.few_entries in omega arith))
 
-    set_shown : (s : AtomSet) → number 64 (members s) < 2 ^ v.atoms → bits_of (number 64 (members s)) ≡ below_or_none v.atoms (members s)
-    set_shown s l =
-        set_back 64 (members s) (omega arith) (within_members s)
-        ∙ sym (cond-true _ _ _ (below_number (members s) v.atoms (within_members s) ∙ lt-ltb (number 64 (members s)) (2 ^ v.atoms) l))
+    set_shown : (s : AtomSet) → bits_of (number 64 (members s)) ≡ members s
+    set_shown s = set_back 64 (members s) (omega arith) (within_members s)
 
 -- a view of what was read of a file means its task
 pub file_opened : (v : FileView) (b : List ℕ) → Bytes b →

@@ -1,12 +1,13 @@
 -- What the writer leaves in the buffer.
-use Rattle.std.proofs.Common.{◌≡◌, ℕ, zero, suc, ◌+◌, ◌-◌, ◌*◌, ◌/◌, ◌%◌, ◌^◌, ◌<◌, ◌≤◌, eqb, List, [], ◌∷◌, ◌++◌, map, length, take, drop, set, sym, refl, ap, ◌∙◌, subst, ⊎_elim, append_assoc, mod-eq_of_lt, div-one, add-one, arith, length-append, length-drop}
+use Rattle.std.proofs.Common.{◌≡◌, ℕ, zero, suc, ◌+◌, ◌-◌, ◌*◌, ◌/◌, ◌%◌, ◌^◌, ◌<◌, ◌≤◌, eqb, List, [], ◌∷◌, ◌++◌, map, length, get_or, take, drop, set, Option, sym, refl, ap, ◌∙◌, subst, ⊎_elim, append_assoc, mod-eq_of_lt, div-one, add-one, arith, length-append, length-drop}
 use native.Mathlib.Nat.{pow-succ'}
 use lib.Arith.{mod-mul}
 use borrow.Rule.Slice.PartMut.{put_mid}
-use Rattle.std.proofs.lemmas.List.{take-append-drop, take_at, drop_at, drop-drop, length-take-le, set_split, flat_map_more, length-set}
+use Rattle.std.proofs.lemmas.List.{take-append-drop, take_at, drop_at, drop-drop, length-take-le, set_split, flat_map_more}
 use Rattle.std.proofs.lemmas.Nat.{div-mul-add, mod-mul-add, mod_below}
 use Rattle.std.proofs.lemmas.Bool.{eq-eqb, ne_eqb, cases_Bool}
-use Rattle.std.specs.List.{range_with_len, flat_map}
+use Rattle.std.specs.List.{range_with_len, flat_map, fold, sum_by}
+use Rattle.std.proofs.lemmas.List.Concat.{length-flat_map}
 use Rattle.std.proofs.lemmas.List.FromFn.{map-range_with_len_more, take-map-range_with_len}
 use Rattle.taskfile.specs.Content.{Entry}
 use Rattle.strips.specs.Sets.{Atoms, clipped}
@@ -16,8 +17,8 @@ use Rattle.strips.specs.Rows.{row_action, clipped_action}
 use Rattle.strips.specs.declared.atoms.AtomSet.{AtomSet}
 use Rattle.strips.specs.declared.row.Row.{Row}
 use Rattle.taskfile.specs.Content.{Content, entry_of}
-use Rattle.taskfile.specs.Format.{high_first, unless, entry_map, entry_bytes, content_map, content_bytes}
-use Rattle.taskfile.specs.Writing.{written}
+use Rattle.taskfile.specs.Format.{high_first, unless, flag, entry_map, entry_bytes, content_map, content_bytes}
+use Rattle.taskfile.specs.Writing.{field_of, bytes_in, bit_in, written}
 use Rattle.taskfile.proofs.Contents.{number_clipped}
 use Rattle.taskfile.proofs.Strict.{pow_256, length_high_first}
 
@@ -114,20 +115,31 @@ flat a b c d = simp append_assoc
 flat5 : (a b c d e : List ℕ) → (((a ++ b) ++ c) ++ d) ++ e ≡ a ++ (b ++ (c ++ (d ++ e)))
 flat5 a b c d e = simp append_assoc
 
+-- a field that a value has
+pub field_bytes : (z w v : ℕ) (f : Option (List ℕ)) → f ≡ field_of z w v → bytes_in f ≡ unless z w v
+field_bytes z w v f e = ap bytes_in e ∙ ⊎_elim (λ t. rw t refl) (λ t. rw t refl) (cases_Bool (eqb v z))
+
+pub field_flag : (z w v : ℕ) (f : Option (List ℕ)) → f ≡ field_of z w v → bit_in f ≡ flag z v
+field_flag z w v f e = ap bit_in e ∙ ⊎_elim (λ t. rw t refl) (λ t. rw t refl) (cases_Bool (eqb v z))
+
+pub field_length : (z w v : ℕ) (f : Option (List ℕ)) → f ≡ field_of z w v → length (bytes_in f) ≡ length (unless z w v)
+field_length z w v f e = ap length (field_bytes z w v f e)
+
 -- a record, piece by piece
-pub entry_written : (o : List ℕ) (at : ℕ) (r : Entry) (o2 o3 o4 o5 : List ℕ) (a2 a3 a4 : ℕ) → at + length (entry_bytes r) ≤ length o
-    → o2 ≡ written (set o at (entry_map r)) (at + 1) (unless 0 8 r.needs) → a2 ≡ at + 1 + length (unless 0 8 r.needs)
-    → o3 ≡ written o2 a2 (unless 0 8 r.adds) → a3 ≡ a2 + length (unless 0 8 r.adds)
-    → o4 ≡ written o3 a3 (unless 0 8 r.removes) → a4 ≡ a3 + length (unless 0 8 r.removes)
-    → o5 ≡ written o4 a4 (unless 1 2 r.cost) → o5 ≡ written o at (entry_bytes r)
+pub entry_written : (o : List ℕ) (at : ℕ) (r : Entry) (m : ℕ) (ns ds rs cs o2 o3 o4 o5 : List ℕ) (a2 a3 a4 : ℕ)
+    → m ≡ entry_map r → ns ≡ unless 0 8 r.needs → ds ≡ unless 0 8 r.adds → rs ≡ unless 0 8 r.removes → cs ≡ unless 1 2 r.cost
+    → at + length (entry_bytes r) ≤ length o
+    → o2 ≡ written (set o at m) (at + 1) ns → a2 ≡ at + 1 + length ns
+    → o3 ≡ written o2 a2 ds → a3 ≡ a2 + length ds
+    → o4 ≡ written o3 a3 rs → a4 ≡ a3 + length rs
+    → o5 ≡ written o4 a4 cs → o5 ≡ written o at (entry_bytes r)
 unfolding entry_bytes
-entry_written o at r o2 o3 o4 o5 a2 a3 a4 h e2 s2 e3 s3 e4 s4 e5 =
-    let ns : List ℕ = unless 0 8 r.needs in
-    let ds : List ℕ = unless 0 8 r.adds in
-    let rs : List ℕ = unless 0 8 r.removes in
-    let cs : List ℕ = unless 1 2 r.cost in
-    let m : ℕ = entry_map r in
+entry_written o at r m ns ds rs cs o2 o3 o4 o5 a2 a3 a4 em en ed er ec h e2 s2 e3 s3 e4 s4 e5 =
     let l = length_entry r in
+    let kn = ap length en in
+    let kd = ap length ed in
+    let kr = ap length er in
+    let kc = ap length ec in
     let w1 : set o at m ≡ written o at (m ∷ []) = written_one o at m (omega arith) in
     let w2 : o2 ≡ written o at ((m ∷ []) ++ ns) = then_written o (set o at m) o2 at (at + 1) (m ∷ []) ns w1 (omega arith) e2 (omega arith) in
     let l2 = length-append (m ∷ []) ns in
@@ -136,7 +148,7 @@ entry_written o at r o2 o3 o4 o5 a2 a3 a4 h e2 s2 e3 s3 e4 s4 e5 =
     let w4 : o4 ≡ written o at ((((m ∷ []) ++ ns) ++ ds) ++ rs) = then_written o o3 o4 at a3 (((m ∷ []) ++ ns) ++ ds) rs w3 (omega arith) e4 (omega arith) in
     let l4 = length-append (((m ∷ []) ++ ns) ++ ds) rs in
     let w5 : o5 ≡ written o at (((((m ∷ []) ++ ns) ++ ds) ++ rs) ++ cs) = then_written o o4 o5 at a4 ((((m ∷ []) ++ ns) ++ ds) ++ rs) cs w4 (omega arith) e5 (omega arith) in
-    w5 ∙ ap (λ x. written o at (m ∷ x)) (flat ns ds rs cs)
+    w5 ∙ ap (λ x. written o at (m ∷ x)) (flat ns ds rs cs) ∙ λ i. written o at (em i ∷ (en i ++ (ed i ++ (er i ++ ec i))))
 
 -- the records of the first i actions
 abbrev pub front : Task → ℕ → List ℕ
@@ -168,9 +180,20 @@ front_small t (suc i) =
     let n = ap (λ j. length (front t j)) (add-one i) in
     omega arith
 
+sum_map : {X Y : Type 0} (h : Y → ℕ) (f : X → Y) (n : ℕ) (xs : List X) → fold (λ a y. a + h y) n (map f xs) ≡ fold (λ a x. a + h (f x)) n xs
+sum_map h f n [] = refl
+sum_map h f n (x ∷ xs) = sum_map h f (n + h (f x)) xs
+
+pub front_sum : (t : Task) (i : ℕ) → sum_by (λ a. length (entry_bytes (entry_of (t.action a)))) (range_with_len 0 i) ≡ length (front t i)
+front_sum t i =
+    sym (length-flat_map entry_bytes (map (λ a. entry_of (t.action a)) (range_with_len 0 i)) ∙ sum_map (λ e. length (entry_bytes e)) (λ a. entry_of (t.action a)) 0 (range_with_len 0 i))
+
 -- the record of a row that the task answers
 row_entry : (r : Row) (a : Action) → row_action r ≡ clipped_action 64 a → entry_of (row_action r) ≡ entry_of a
 row_entry r a e = ap entry_of e ∙ λ i. record { needs = number_clipped a.needs i; adds = number_clipped a.adds i; removes = number_clipped a.removes i; cost = a.cost }
+
+pub row_bytes : (a : Action) (r : Row) (n : ℕ) → n ≡ length (entry_bytes (entry_of (row_action r))) → row_action r ≡ clipped_action 64 a → n ≡ length (entry_bytes (entry_of a))
+row_bytes a r n e h = e ∙ ap (λ x. length (entry_bytes x)) (row_entry r a h)
 
 pub row_front : (t : Task) (i : ℕ) (r : Row) → row_action r ≡ clipped_action 64 (t.action i) → front t i ++ entry_bytes (entry_of (row_action r)) ≡ front t (i + 1)
 row_front t i r e = ap (λ x. front t i ++ entry_bytes x) (row_entry r (t.action i) e) ∙ sym (front_more t i)
@@ -182,47 +205,42 @@ row_length t i r e = sym (length-append (front t i) (entry_bytes (entry_of (row_
 pub set_number : (s : AtomSet) (A : Atoms) → members s ≡ clipped 64 A → number 64 (members s) ≡ number 64 A
 set_number s A e = ap (number 64) e ∙ number_clipped A
 
+-- the field of a set that the task answers
+pub set_field_is : (s : AtomSet) (A : Atoms) (f : Option (List ℕ)) → f ≡ field_of 0 8 (number 64 (members s)) → members s ≡ clipped 64 A → f ≡ field_of 0 8 (number 64 A)
+set_field_is s A f e h = e ∙ ap (field_of 0 8) (set_number s A h)
+
+-- the bytes of the header
+pub header_bytes : (n k m : ℕ) (b : List ℕ) → k < 65536 → b ≡ (k / 256 % 256) ∷ (k % 256) ∷ [] → 1 ∷ n ∷ get_or b 0 0 ∷ get_or b 1 0 ∷ m ∷ [] ≡ 1 ∷ n ∷ (high_first 2 k ++ (m ∷ []))
+header_bytes n k m b l e = ap (λ x. 1 ∷ n ∷ get_or x 0 0 ∷ get_or x 1 0 ∷ m ∷ []) e ∙ ap (λ x. 1 ∷ n ∷ (x ++ (m ∷ []))) (two_bytes k l)
+
 pub length_file : (c : Content) → length (content_bytes c) ≡ 5 + (length (unless 0 8 c.start) + (length (unless 0 8 c.goal) + length (flat_map entry_bytes c.entries)))
 unfolding content_bytes
 length_file c = rw (length-append, length-append, length-append, length_high_first) (omega arith)
 
 -- the file, piece by piece
-pub file_written : (o : List ℕ) (c : Content) (n k m s g : ℕ) (o3 o5 o6 o7 : List ℕ) (a6 a7 : ℕ) → n ≡ c.atoms → k ≡ length c.entries → m ≡ content_map c → s ≡ c.start → g ≡ c.goal → length (content_bytes c) ≤ length o →
-    o3 ≡ written (set (set o 0 1) 1 n) 2 (high_first 2 k) →
-    o5 ≡ written (set o3 4 m) 5 (unless 0 8 s) → a6 ≡ 5 + length (unless 0 8 s) →
-    o6 ≡ written o5 a6 (unless 0 8 g) → a7 ≡ a6 + length (unless 0 8 g) →
-    o7 ≡ written o6 a7 (flat_map entry_bytes c.entries) → o7 ≡ written o 0 (content_bytes c)
+pub file_written : (o : List ℕ) (c : Content) (n k m : ℕ) (hs ss gs o1 o2 o3 o4 : List ℕ) (a1 a2 a3 : ℕ)
+    → n ≡ c.atoms → k ≡ length c.entries → m ≡ content_map c → hs ≡ 1 ∷ n ∷ (high_first 2 k ++ (m ∷ [])) → ss ≡ unless 0 8 c.start → gs ≡ unless 0 8 c.goal
+    → length (content_bytes c) ≤ length o
+    → o1 ≡ written o 0 hs → a1 ≡ 5
+    → o2 ≡ written o1 a1 ss → a2 ≡ a1 + length ss
+    → o3 ≡ written o2 a2 gs → a3 ≡ a2 + length gs
+    → o4 ≡ written o3 a3 (flat_map entry_bytes c.entries) → o4 ≡ written o 0 (content_bytes c)
 unfolding content_bytes
-file_written o c n k m s g o3 o5 o6 o7 a6 a7 en ek em es eg h e3 e5 s6 e6 s7 e7 =
+file_written o c n k m hs ss gs o1 o2 o3 o4 a1 a2 a3 en ek em eh es eg h e1 s1 e2 s2 e3 s3 e4 =
     let l = length_file c in
-    let ls = ap (λ x. length (unless 0 8 x)) es in
-    let lg = ap (λ x. length (unless 0 8 x)) eg in
-    let hk : List ℕ = high_first 2 k in
-    let ss : List ℕ = unless 0 8 s in
-    let gs : List ℕ = unless 0 8 g in
+    let ks = ap length es in
+    let kg = ap length eg in
     let rs : List ℕ = flat_map entry_bytes c.entries in
-    let o1 : List ℕ = set o 0 1 in
-    let o2 : List ℕ = set o1 1 n in
-    let o4 : List ℕ = set o3 4 m in
-    let lk : length hk ≡ 2 = length_high_first 2 k in
-    let w1 : o1 ≡ written o 0 (1 ∷ []) = written_one o 0 1 (omega arith) in
-    let l1 : length o1 ≡ length o = length-set o 0 1 in
-    let w2 : o2 ≡ written o 0 ((1 ∷ []) ++ (n ∷ [])) = then_written o o1 o2 0 1 (1 ∷ []) (n ∷ []) w1 (omega arith) (written_one o1 1 n (omega arith)) (omega arith) in
-    let w3 : o3 ≡ written o 0 (((1 ∷ []) ++ (n ∷ [])) ++ hk) = then_written o o2 o3 0 2 ((1 ∷ []) ++ (n ∷ [])) hk w2 (omega arith) e3 (omega arith) in
-    let x3 : List ℕ = ((1 ∷ []) ++ (n ∷ [])) ++ hk in
-    let lx3 : length x3 ≡ 4 = length-append ((1 ∷ []) ++ (n ∷ [])) hk ∙ omega arith in
-    let l3 : length o3 ≡ length o = ap length w3 ∙ length_written o 0 x3 (omega arith) in
-    let w4 : o4 ≡ written o 0 (x3 ++ (m ∷ [])) = then_written o o3 o4 0 4 x3 (m ∷ []) w3 (omega arith) (written_one o3 4 m (omega arith)) (omega arith) in
-    let x4 : List ℕ = x3 ++ (m ∷ []) in
-    let lx4 : length x4 ≡ 5 = length-append x3 (m ∷ []) ∙ omega arith in
-    let w5 : o5 ≡ written o 0 (x4 ++ ss) = then_written o o4 o5 0 5 x4 ss w4 (omega arith) e5 (omega arith) in
-    let lx5 = length-append x4 ss in
-    let w6 : o6 ≡ written o 0 ((x4 ++ ss) ++ gs) = then_written o o5 o6 0 a6 (x4 ++ ss) gs w5 (omega arith) e6 (omega arith) in
-    let lx6 = length-append (x4 ++ ss) gs in
-    let w7 : o7 ≡ written o 0 (((x4 ++ ss) ++ gs) ++ rs) = then_written o o6 o7 0 a7 ((x4 ++ ss) ++ gs) rs w6 (omega arith) e7 (omega arith) in
-    w7
-    ∙ (ap (λ x. written o 0 (1 ∷ n ∷ x)) (flat5 hk (m ∷ []) ss gs rs)
-    ∙ λ i. written o 0 (1 ∷ en i ∷ (high_first 2 (ek i) ++ (em i ∷ (unless 0 8 (es i) ++ (unless 0 8 (eg i) ++ rs))))))
+    let kh : length hs ≡ 5 = ap length eh ∙ rw (length-append, length_high_first) (omega arith) in
+    let w2 : o2 ≡ written o 0 (hs ++ ss) = then_written o o1 o2 0 a1 hs ss e1 (omega arith) e2 (omega arith) in
+    let l2 = length-append hs ss in
+    let w3 : o3 ≡ written o 0 ((hs ++ ss) ++ gs) = then_written o o2 o3 0 a2 (hs ++ ss) gs w2 (omega arith) e3 (omega arith) in
+    let l3 = length-append (hs ++ ss) gs in
+    let w4 : o4 ≡ written o 0 (((hs ++ ss) ++ gs) ++ rs) = then_written o o3 o4 0 a3 ((hs ++ ss) ++ gs) rs w3 (omega arith) e4 (omega arith) in
+    w4
+    ∙ ap (λ x. written o 0 (((x ++ ss) ++ gs) ++ rs)) eh
+    ∙ ap (λ x. written o 0 (1 ∷ n ∷ x)) (flat5 (high_first 2 k) (m ∷ []) ss gs rs)
+    ∙ λ i. written o 0 (1 ∷ en i ∷ (high_first 2 (ek i) ++ (em i ∷ (es i ++ (eg i ++ rs)))))
 
 pub written_front : (o x : List ℕ) → written o 0 x ≡ x ++ drop (length x) o
 unfolding written

@@ -1,6 +1,6 @@
 //! The header of a file.
-ghost use Rattle.std.specs.Prelude.{◌≡◌, ◌+◌, ◌*◌, ◌<◌, ◌≤◌, length, IfOk, Ok, Err, MatchResult};
-ghost use Rattle.taskfile.specs.Reading.{header};
+ghost use Rattle.std.specs.Prelude.{◌≡◌, ◌+◌, ◌*◌, ◌<◌, ◌≤◌, length, IfOk, None, Ok, Err, MatchResult};
+ghost use Rattle.taskfile.specs.Reading.{fault, header};
 
 use crate::fault::Fault;
 use strips::Denial;
@@ -31,34 +31,29 @@ fn action_count(high: u8, low: u8) -> usize
     usize::from(u16::from_be_bytes([high, low]))
 }
 
+// A fault of the header is in no action's record.
+fn fault(denial: Denial, place: usize) -> Fault
+    ensures { result ≡ fault denial place None }
+{
+    Fault {
+        denial,
+        place,
+        action: None,
+    }
+}
+
 // The leftmost fault of a file that ends inside its header.
 fn cut_short(bytes: &[u8]) -> Fault
     requires { length bytes.now < 5 }
     ensures { header (length bytes.now) bytes.now ≡ Err result }
 {
     match bytes {
-        [version, ..] if *version != VERSION => Fault {
-            denial: Denial::VersionUnknown,
-            place: 0,
-            action: None,
-        },
-        [_, atoms, ..] if *atoms > ATOMS => Fault {
-            denial: Denial::SizeOutOfRange,
-            place: 1,
-            action: None,
-        },
+        [version, ..] if *version != VERSION => fault(Denial::VersionUnknown, 0),
+        [_, atoms, ..] if *atoms > ATOMS => fault(Denial::SizeOutOfRange, 1),
         [_, _, high, low, ..] if action_count(*high, *low) > ACTIONS => {
-            Fault {
-                denial: Denial::SizeOutOfRange,
-                place: 2,
-                action: None,
-            }
+            fault(Denial::SizeOutOfRange, 2)
         }
-        _ => Fault {
-            denial: Denial::FileEnds,
-            place: bytes.len(),
-            action: None,
-        },
+        _ => fault(Denial::FileEnds, bytes.len()),
     }
 }
 
@@ -73,32 +68,16 @@ pub(crate) fn read_header(bytes: &[u8]) -> Result<(Header, &[u8]), Fault>
     };
     let actions = action_count(*high, *low);
     if *version != VERSION {
-        return Err(Fault {
-            denial: Denial::VersionUnknown,
-            place: 0,
-            action: None,
-        });
+        return Err(fault(Denial::VersionUnknown, 0));
     }
     if *atoms > ATOMS {
-        return Err(Fault {
-            denial: Denial::SizeOutOfRange,
-            place: 1,
-            action: None,
-        });
+        return Err(fault(Denial::SizeOutOfRange, 1));
     }
     if actions > ACTIONS {
-        return Err(Fault {
-            denial: Denial::SizeOutOfRange,
-            place: 2,
-            action: None,
-        });
+        return Err(fault(Denial::SizeOutOfRange, 2));
     }
     if *map >= MAPS {
-        return Err(Fault {
-            denial: Denial::MapBitUnknown,
-            place: 4,
-            action: None,
-        });
+        return Err(fault(Denial::MapBitUnknown, 4));
     }
     Ok((
         Header {

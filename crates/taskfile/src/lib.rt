@@ -2,13 +2,11 @@
 #![tactic(auto)]
 
 mod fault;
-mod fields;
 mod header;
 mod laws;
 mod put;
-mod records;
+mod reader;
 mod view;
-mod words;
 mod writer;
 
 pub use fault::Fault;

@@ -1,16 +1,12 @@
 //! A task that is read from its file when it is asked.
-ghost use Rattle.std.specs.Prelude.{◌≡◌, ◌<◌, min, MatchResult};
+ghost use Rattle.std.specs.Prelude.{◌≡◌, ℕ, ◌<◌, ◌≤◌, length, slice_index, MatchResult};
 ghost use Rattle.strips.specs.Bits.{members};
-ghost use Rattle.strips.specs.Rows.{row_action};
-ghost use Rattle.taskfile.specs.Format.{Accepted};
-ghost use Rattle.taskfile.specs.Reading.{FaultOf};
-ghost use Rattle.taskfile.specs.View.{below_or_none, view_task, view_sound};
+ghost use Rattle.strips.specs.Sets.{Within};
 
 use crate::fault::Fault;
-use crate::fields::set;
 use crate::header::{ACTIONS, read_header};
-use crate::records::{brings, record_at, records};
-use strips::{AtomSet, Denial, Part, Row, Task};
+use crate::reader::{Reader, brings};
+use strips::{AtomSet, Part, Row, Task};
 
 /// A file that was read through: its header, its records, and where each record begins.
 #[derive(Clone, Copy)]
@@ -21,70 +17,64 @@ pub struct FileView<'a> {
     goal: AtomSet,
     records: &'a [u8],
     places: [usize; ACTIONS],
+    ghost few: { actions ≤ 256 },
+    ghost start_in: { Within atoms (members start) },
+    ghost goal_in: { Within atoms (members goal) },
+    ghost placed: { (i : ℕ) → i < actions → slice_index places i ≤ length records.now },
 }
 
 impl<'a> FileView<'a> {
+    ghost use Rattle.strips.specs.Rows.{row_action};
+    ghost use Rattle.taskfile.specs.Format.{Accepted};
+    ghost use Rattle.taskfile.specs.Reading.{FaultOf};
+    ghost use Rattle.taskfile.specs.View.{view_task};
+
     /// Reads the whole file: it is the file of a task, or its leftmost fault is told.
     pub fn open(bytes: &'a [u8]) -> Result<FileView<'a>, Fault>
         ensures { MatchResult result (λ v. Accepted bytes.now (view_task v)) (λ f. FaultOf bytes.now f) }
     {
-        let total = bytes.len();
         let (header, rest) = read_header(bytes)?;
-        let (start, rest) = set(brings(header.map, 0), total, header.atoms, None, rest)?;
-        let (goal, body) = set(brings(header.map, 1), total, header.atoms, None, rest)?;
-        let (places, rest) = records(total, header.atoms, header.actions, body)?;
-        if rest.len() > 0 {
-            return Err(Fault {
-                denial: Denial::BytesAfterEnd,
-                place: total - rest.len(),
-                action: None,
-            });
-        }
+        let mut reader = Reader {
+            total: bytes.len(),
+            atoms: header.atoms,
+            action: None,
+            rest,
+        };
+        let start = reader.set(brings(header.map, 0))?;
+        let goal = reader.set(brings(header.map, 1))?;
+        let records = reader.rest;
+        let places = reader.records(header.actions)?;
+        reader.finish()?;
         Ok(FileView {
             atoms: header.atoms,
             actions: header.actions,
             start,
             goal,
-            records: body,
+            records,
             places,
         })
-    }
-
-    // How many records have a place.
-    fn count(&self) -> usize
-        ensures { result ≡ min self.now.actions 256 }
-    {
-        self.actions.min(ACTIONS)
     }
 
     // The row of an action, read from its record.
     fn row_at(&self, action: usize) -> Row
         ensures { row_action result ≡ (view_task self.now).action action }
     {
-        if action >= self.count() {
+        if action >= self.actions {
             return Row::NONE;
         }
-        let size = self.records.len();
-        let place = self.places[action].min(size);
-        match record_at(size, self.atoms, action, &self.records[place..]) {
-            Ok((row, _)) => row,
-            Err(_) => Row::NONE,
-        }
-    }
-
-    // The start or the goal. Opening has checked that the atoms are in range.
-    fn in_range(&self, set: AtomSet) -> AtomSet
-        ensures { members result ≡ below_or_none self.now.atoms (members set) }
-    {
-        if set.is_below(usize::from(self.atoms)) {
-            set
-        } else {
-            AtomSet::EMPTY
-        }
+        let mut reader = Reader {
+            total: self.records.len(),
+            atoms: self.atoms,
+            action: Some(action),
+            rest: &self.records[self.places[action]..],
+        };
+        reader.record().unwrap_or(Row::NONE)
     }
 }
 
 impl<'a> Task for FileView<'a> {
+    ghost use Rattle.taskfile.specs.View.{view_task, view_sound};
+
     ghost meaning = { λ v. view_task v };
 
     ghost sound = { λ v. view_sound v };
@@ -94,7 +84,7 @@ impl<'a> Task for FileView<'a> {
     }
 
     fn actions(&self) -> usize {
-        self.count()
+        self.actions
     }
 
     fn needs(&self, action: usize, atom: usize) -> bool {
@@ -114,11 +104,11 @@ impl<'a> Task for FileView<'a> {
     }
 
     fn in_start(&self, atom: usize) -> bool {
-        self.in_range(self.start).has(atom)
+        self.start.has(atom)
     }
 
     fn in_goal(&self, atom: usize) -> bool {
-        self.in_range(self.goal).has(atom)
+        self.goal.has(atom)
     }
 
     fn holds(&self, part: Part, atom: usize) -> bool {
@@ -130,8 +120,8 @@ impl<'a> Task for FileView<'a> {
             Part::Needs(action) => self.row_at(action).needs,
             Part::Adds(action) => self.row_at(action).adds,
             Part::Removes(action) => self.row_at(action).removes,
-            Part::Start => self.in_range(self.start),
-            Part::Goal => self.in_range(self.goal),
+            Part::Start => self.start,
+            Part::Goal => self.goal,
         }
     }
 

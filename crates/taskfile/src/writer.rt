@@ -1,36 +1,23 @@
 //! The file of a task, written to a buffer.
-ghost use Rattle.std.specs.Prelude.{◌≡◌, ◌+◌, ◌≤◌, ◌++◌, length, drop, Some, None, MatchResult};
+ghost use Rattle.std.specs.Prelude.{◌≡◌, ◌+◌, ◌*◌, ◌≤◌, ◌++◌, length, drop, Some, None, MatchResult};
 ghost use Rattle.std.specs.List.{flat_map};
-ghost use Rattle.strips.specs.Bits.{members, number};
-ghost use Rattle.strips.specs.Rows.{row_action};
-ghost use Rattle.taskfile.specs.Content.{entry_of, content_of};
-ghost use Rattle.taskfile.specs.Format.{unless, entry_bytes, encode};
+ghost use Rattle.taskfile.specs.Content.{content_of};
+ghost use Rattle.taskfile.specs.Format.{entry_bytes, encode};
 ghost use Rattle.taskfile.specs.Writing.{write_denied, written};
 
-use crate::fields::COST;
 use crate::header::{ACTIONS, ATOMS, VERSION};
-use crate::put::{put_row, put_set, put_two, set_flag};
-use strips::{AtomSet, Denial, Part, Row, Task};
+use crate::put::{flag, put, put_row, row_size, set_field, size};
+use strips::{Denial, Part, Task};
 
-fn set_size(set: AtomSet) -> usize
-    ensures size { result ≡ length (unless 0 8 (number 64 (members set))) }
-    ensures small { result ≤ 8 }
+// How many bytes the records have.
+fn records_size<T: Task>(task: &T) -> usize
+    requires { (T.Task.meaning task.now).actions ≤ 256 }
+    ensures is { result ≡ length (flat_map entry_bytes (content_of (T.Task.meaning task.now)).entries) }
+    ensures small { result ≤ 27 * 256 }
 {
-    if set.bits() == 0 { 0 } else { 8 }
-}
-
-fn cost_size(cost: u16) -> usize
-    ensures size { result ≡ length (unless 1 2 cost) }
-    ensures small { result ≤ 2 }
-{
-    if cost == COST { 0 } else { 2 }
-}
-
-fn row_size(row: Row) -> usize
-    ensures size { result ≡ length (entry_bytes (entry_of (row_action row))) }
-    ensures small { result ≤ 27 }
-{
-    1 + set_size(row.needs) + set_size(row.adds) + set_size(row.removes) + cost_size(row.cost)
+    (0..task.actions())
+        .map(|action| row_size(task.row(action)))
+        .sum()
 }
 
 // How many bytes the file has.
@@ -38,11 +25,9 @@ fn file_size<T: Task>(task: &T) -> usize
     requires { (T.Task.meaning task.now).actions ≤ 256 }
     ensures { result ≡ length (encode (T.Task.meaning task.now)) }
 {
-    let mut size = 5 + set_size(task.set_of(Part::Start)) + set_size(task.set_of(Part::Goal));
-    for action in 0..task.actions() {
-        size += row_size(task.row(action));
-    }
-    size
+    let start = set_field(task.set_of(Part::Start));
+    let goal = set_field(task.set_of(Part::Goal));
+    5 + size(start) + size(goal) + records_size(task)
 }
 
 // Writes the records from a place on.
@@ -63,14 +48,14 @@ fn put_file<T: Task>(task: &T, out: &mut [u8])
     requires room { length (encode (T.Task.meaning task.now)) ≤ length out.old }
     ensures { out.new ≡ written out.old 0 (encode (T.Task.meaning task.now)) }
 {
-    let start = task.set_of(Part::Start);
-    let goal = task.set_of(Part::Goal);
-    out[0] = VERSION;
-    out[1] = task.atoms() as u8;
-    put_two(out, 2, task.actions() as u16);
-    out[4] = set_flag(start) + 2 * set_flag(goal);
-    let at = put_set(out, 5, start);
-    let at = put_set(out, at, goal);
+    let start = set_field(task.set_of(Part::Start));
+    let goal = set_field(task.set_of(Part::Goal));
+    let [high, low] = (task.actions() as u16).to_be_bytes();
+    let map = flag(start) + 2 * flag(goal);
+    let header = [VERSION, task.atoms() as u8, high, low, map];
+    let at = put(out, 0, Some(header));
+    let at = put(out, at, start);
+    let at = put(out, at, goal);
     put_rows(task, out, at);
 }
 

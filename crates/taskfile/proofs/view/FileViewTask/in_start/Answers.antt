@@ -4,4 +4,4 @@ use Rattle.taskfile.proofs.Views.{view_start}
 use Rattle.taskfile.proofs.view.FileViewTask.in_start.Goals as goal
 
 pub returns : goal.returns
-returns c = c.has.ensures ∙ ap (λ (A : Atoms). A c.args.atom) (c.in_range.ensures ∙ sym (view_start c.args.self.now))
+returns c = c.has.ensures ∙ ap (λ (A : Atoms). A c.args.atom) (sym (view_start c.args.self.now))

@@ -16,10 +16,8 @@ returns-in-Removes c = held c.row_at-in-Removes.result.removes _ (ap (λ (x : Ac
 
 pub returns-in-Start : goal.returns-in-Start
 returns-in-Start c =
-    held c.in_range.result _
-    (c.in_range.ensures ∙ (sym (view_start c.args.self.now) ∙ ap (part_of (view_task c.args.self.now)) (sym c.in-Start.is)))
+    held c.args.self.now.start _ (sym (view_start c.args.self.now) ∙ ap (part_of (view_task c.args.self.now)) (sym c.in-Start.is))
 
 pub returns-in-Goal : goal.returns-in-Goal
 returns-in-Goal c =
-    held c.in_range-in-Goal.result _
-    (c.in_range-in-Goal.ensures ∙ (sym (view_goal c.args.self.now) ∙ ap (part_of (view_task c.args.self.now)) (sym c.in-Goal.is)))
+    held c.args.self.now.goal _ (sym (view_goal c.args.self.now) ∙ ap (part_of (view_task c.args.self.now)) (sym c.in-Goal.is))
