@@ -1,7 +1,7 @@
 -- The sets that a scope takes in, by their numbers.
-use Rattle.std.proofs.Common.{◌≡◌, ℕ, zero, suc, ◌+◌, ◌-◌, ◌<◌, ◌≤◌, Bool, true, false, not, ◌&&◌, ◌||◌, eqb, ltb, length, Some, None, Option, sym, refl, ap, ◌∙◌, subst, ⊎_elim, true≢false, arith, ltb-true, le-ltb, lt-ltb, eq-eqb, eqb-true}
+use Rattle.std.proofs.Common.{◌≡◌, ℕ, zero, suc, ◌+◌, ◌-◌, ◌<◌, ◌≤◌, Bool, true, false, not, ◌&&◌, ◌||◌, eqb, ltb, length, Some, None, Option, MatchOption, sym, refl, ap, ◌∙◌, subst, ⊎_elim, true≢false, arith, ltb-true, le-ltb, lt-ltb, eq-eqb, eqb-true}
 use Rattle.std.proofs.lemmas.Bool.{cases_lt, cases_eq, and_parts, and_from, or_cases, or_left, or_right}
-use Rattle.strips.specs.Sets.{Atoms, nothing, plus, joined, clipped, inside, meets, Within}
+use Rattle.strips.specs.Sets.{Atoms, nothing, plus, clipped, inside, meets, Within}
 use Rattle.strips.proofs.Members.{same_atoms}
 use Rattle.strips.proofs.Binary.{inside_each, inside_from, meets_from, meets_none, same_test}
 use Rattle.heuristics.specs.Smalls.{smalls, set_at}
@@ -11,7 +11,8 @@ use Rattle.bounds.specs.declared.order.Order.TheVariants.{One, Two}
 use Rattle.strips.specs.Bits.{members}
 use Rattle.strips.specs.Parts.{FirstFrom}
 use Rattle.heuristics.specs.Compiled.{within_meeting}
-use Rattle.compiled.specs.Decoded.{scoped, lows, scoped_pairs}
+use Rattle.strips.specs.declared.atoms.AtomSet.{AtomSet}
+use Rattle.compiled.specs.Decoded.{SetIs, around, scoped, lows, scoped_pairs}
 use Rattle.compiled.specs.declared.subsets.Scope.{Scope}
 use Rattle.compiled.proofs.Numbering.{tri, tri_below, one_count, two_count, one_at, two_at}
 
@@ -165,10 +166,6 @@ scoped_by o n i s S B A h l e f =
 
 -- THE FIRST NUMBER THAT A SCOPE TAKES IN ------------------------------------
 
--- every atom of core and rim
-abbrev pub around : Scope → Atoms
-around s = joined (members s.core) (members s.rim)
-
 pub lows_under : (s : Scope) (high low : ℕ) → lows s high low ≡ true → low < high
 lows_under s high low e = ltb-true low high (and_parts (ltb low high) ((around s high && around s low) && (members s.core high || members s.core low)) e).0
 
@@ -297,3 +294,18 @@ below_found limit from p A h f = (f.0, and_from (ltb p limit) (A p) (lt-ltb p li
 
 pub below_none : (limit from : ℕ) (A : Atoms) → ((q : ℕ) → from ≤ q → q < limit → A q ≡ false) → FirstFrom (clipped limit A) from None
 below_none limit from A f q g = ⊎_elim (λ l. ap (λ b. b && A q) (lt-ltb q limit l) ∙ f q g l) (λ l. ap (λ b. b && A q) (le-ltb q limit l)) (cases_lt q limit)
+
+-- whether a scope takes in the set of a number, or of no number
+pub set_scoped : (o : Order) (n i : ℕ) (s : Scope) (r : Option AtomSet) (b : Bool) → n ≤ 64 → SetIs n (size_of o) i r →
+    MatchOption r (b ≡ false) (λ x. b ≡ (inside 64 (members x) (around s) && meets 64 (members x) (members s.core))) → b ≡ scoped n (size_of o) s i
+set_scoped o n i s None b h k e = e ∙ sym (at_none (size_of o) n i (around s) (members s.core) k)
+set_scoped o n i s (Some x) b h k e = e ∙ scoped_by o n i (members x) (around s) (around s) (members s.core) h k.0 k.1 refl
+
+-- an atom of the core, or else a pair
+pub core_or_pair : (n from : ℕ) (s : Scope) (a r : Option ℕ) → FirstFrom (clipped n (members s.core)) from a → MatchOption a (FirstFrom (scoped_pairs n s) from r) (λ p. r ≡ Some p) → FirstFrom (scoped n 2 s) from r
+core_or_pair n from s None r f h = then_pairs n from s r f h
+core_or_pair n from s (Some p) r f h = subst (FirstFrom (scoped n 2 s) from) (sym h) (atom_found Two n from p s f)
+
+pub core_alone : (n from : ℕ) (s : Scope) (a : Option ℕ) → FirstFrom (clipped n (members s.core)) from a → FirstFrom (scoped n 1 s) from a
+core_alone n from s None f = no_more n from s f
+core_alone n from s (Some p) f = atom_found One n from p s f
