@@ -64,14 +64,6 @@ needs_scoped o t a None q h k = subst (ScopeIs (size_of o) t.atoms _) (sym k) (a
 needs_scoped o t a (Some c) None h k = absurd k
 needs_scoped o t a (Some c) (Some s) h k = ap (λ b. b.needs) (action_some o t a c h) ∙ inside_scoped o t.atoms s (joined (members c.row.needs) (members c.cargo)) k.0 k.1
 
-pub adds_scoped : (o : Order) (t : Task) (a : ℕ) (r : Option Carrier) (q : Option Scope) → CarrierIs (size_of o) t a r →
-    MatchOption r (q ≡ None) (λ c. IsSomeAnd q (λ s. (members s.core ≡ members c.row.adds) × (members s.rim ≡ members c.cargo))) →
-    ScopeIs (size_of o) t.atoms ((compiled (size_of o) t).action a).adds q
-adds_scoped o t a None q h k = subst (ScopeIs (size_of o) t.atoms _) (sym k) (ap (λ b. b.adds) (action_none o t a h))
-adds_scoped o t a (Some c) None h k = absurd k
-adds_scoped o t a (Some c) (Some s) h k = ap (λ b. b.adds) (action_some o t a c h) ∙
-    (ap (λ C. within_meeting t.atoms (size_of o) (joined C (members c.cargo)) C) (sym k.0) ∙ ap (λ C. within_meeting t.atoms (size_of o) (joined (members s.core) C) (members s.core)) (sym k.1))
-
 -- START AND GOAL ------------------------------------------------------------
 
 -- a set that is asked of a small task has all of its atoms

@@ -72,6 +72,7 @@ impl<T: Task> Compiled<T> {
     pub(crate) fn count_carriers(&self) -> usize
         ensures { result ≡ length (all_carriers (size_of self.now.order) (T.Task.meaning self.now.task)) }
     {
+        // A loop, since the sum of a chain over a range leaves goals here that no short answer closes.
         let mut total = 0;
         for action in 0..self.task.actions() {
             total += count(self.extras(self.task.row(action))) + 1;

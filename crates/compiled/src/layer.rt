@@ -22,7 +22,7 @@ impl<T: Task + Drop> Compiled<T> {
     pub fn new(task: T, order: usize) -> Result<Compiled<T>, Denial>
         ensures { MatchResult result
             (λ v. (bound_denied (T.Task.meaning task) order ≡ None)
-            × (compiled (size_of v.order) (T.Task.meaning v.task) ≡ compiled order (T.Task.meaning task)))
+            × (⟦<Compiled<T> as Task>⟧.meaning v ≡ compiled order (T.Task.meaning task)))
             (λ d. bound_denied (T.Task.meaning task) order ≡ Some d) }
     {
         if !is_small(&task) {

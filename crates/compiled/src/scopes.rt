@@ -4,7 +4,6 @@ ghost use Rattle.strips.specs.Sets.{nothing, joined};
 ghost use Rattle.strips.specs.Bits.{members};
 ghost use Rattle.strips.specs.Parts.{part_of};
 ghost use Rattle.bounds.specs.Orders.{size_of};
-ghost use Rattle.compiled.specs.Compiled.{compiled};
 ghost use Rattle.compiled.specs.Decoded.{ScopeIs};
 
 use crate::Compiled;
@@ -36,7 +35,7 @@ impl Carrier {
 impl<T: Task> Compiled<T> {
     /// The sets of a part of the compiled task.
     pub(crate) fn scope(&self, part: Part) -> Option<Scope>
-        ensures { ScopeIs (size_of self.now.order) (T.Task.meaning self.now.task).atoms (part_of (compiled (size_of self.now.order) (T.Task.meaning self.now.task)) part) result }
+        ensures { ScopeIs (size_of self.now.order) (T.Task.meaning self.now.task).atoms (part_of (⟦<Compiled<T> as Task>⟧.meaning self.now) part) result }
     {
         match part {
             Part::Needs(action) => self.carrier(action).map(Carrier::needs),

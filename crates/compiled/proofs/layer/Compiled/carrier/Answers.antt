@@ -1,7 +1,6 @@
 use Rattle.std.proofs.Common.{◌≡◌, ◌≤◌, length, ap, subst, arith}
 use Rattle.strips.specs.Bits.{members}
-use Rattle.bounds.specs.Orders.{size_of}
-use Rattle.heuristics.specs.Compiled.{flat, carriers}
+use Rattle.heuristics.specs.Compiled.{flat}
 use Rattle.compiled.specs.Decoded.{cargo_set}
 use Rattle.compiled.proofs.Carrying.{extras_same, carriers_reach, carrier_found}
 use Rattle.compiled.proofs.layer.Compiled.carrier.Goals as goal
@@ -9,9 +8,6 @@ use Rattle.compiled.proofs.layer.Compiled.carrier.Goals as goal
 pub loop-action-init : goal.loop-action-init
 unfolding flat
 loop-action-init g c = omega arith
-
-pub returns-in_err-cargo : goal.returns-in_err-cargo
-returns-in_err-cargo g c = let k = c.in_err-cargo.ensures in let l = c.count-more.ensures.count in absurd (let z = c.if-place-more.true in omega arith)
 
 pub returns-then-place-more : goal.returns-then-place-more
 returns-then-place-more g c =
@@ -30,10 +26,4 @@ loop-action-preserved g c =
     let t = g.T.Task.meaning v.task in
     let e = ap length (extras_same v.order t (g.T.Task.sound v.task) v.few_atoms c.loop-action.action c.row-row.result (members c.extras-extras.result) c.row-row.ensures c.extras-extras.ensures) in
     let r = carriers_reach v.order t v.few_atoms c.loop-action.action in
-    omega arith
-
-pub returns : goal.returns
-returns g c =
-    let e : c.loop-action.action ≡ (g.T.Task.meaning c.args.self.now.task).actions = (let n = c.actions-action-end.ensures in omega arith) in
-    let f = ap (λ z. length (flat z (carriers (size_of c.args.self.now.order) (g.T.Task.meaning c.args.self.now.task)))) e in
     omega arith

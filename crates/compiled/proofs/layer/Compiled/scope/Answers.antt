@@ -5,7 +5,7 @@ use Rattle.bounds.specs.Orders.{size_of}
 use Rattle.heuristics.specs.Compiled.{compiled}
 use Rattle.compiled.specs.Decoded.{ScopeIs}
 use Rattle.compiled.proofs.Nothing.{removes_none}
-use Rattle.compiled.proofs.Compiling.{asked_scoped, needs_scoped, adds_scoped}
+use Rattle.compiled.proofs.Compiling.{asked_scoped, needs_scoped}
 use Rattle.compiled.proofs.layer.Compiled.scope.Goals as goal
 
 pub returns-in-Needs : goal.returns-in-Needs
@@ -14,13 +14,6 @@ returns-in-Needs g c =
     let t = g.T.Task.meaning v.task in
     subst (λ x. ScopeIs (size_of v.order) t.atoms (part_of (compiled (size_of v.order) t) x) c.map.result) (sym c.in-Needs.is)
     (needs_scoped v.order t c.in-Needs.action c.carrier.result c.map.result c.carrier.ensures (search rules))
-
-pub returns-in-Adds : goal.returns-in-Adds
-returns-in-Adds g c =
-    let v = c.args.self.now in
-    let t = g.T.Task.meaning v.task in
-    subst (λ x. ScopeIs (size_of v.order) t.atoms (part_of (compiled (size_of v.order) t) x) c.map-in-Adds.result) (sym c.in-Adds.is)
-    (adds_scoped v.order t c.in-Adds.action c.carrier-in-Adds.result c.map-in-Adds.result c.carrier-in-Adds.ensures (search rules))
 
 pub returns-in-Removes : goal.returns-in-Removes
 returns-in-Removes g c =

@@ -1,9 +1,8 @@
-use Rattle.std.proofs.Common.{◌≡◌, ◌+◌, ◌-◌, length, sym, ap, ◌∙◌, subst, arith}
+use Rattle.std.proofs.Common.{length, ap, ◌∙◌, arith}
 use Rattle.strips.specs.Bits.{members}
 use Rattle.strips.proofs.Members.{bits_none}
 use Rattle.heuristics.specs.Smalls.{smalls}
 use Rattle.bounds.specs.Orders.{size_of}
-use Rattle.compiled.specs.Decoded.{SetIs}
 use Rattle.compiled.proofs.Numbering.{one_count, single_is}
 use Rattle.compiled.proofs.subsets.SmallSets.at.Goals as goal
 
@@ -13,9 +12,3 @@ returns-then-number-self c =
 
 pub returns-in-One : goal.returns-in-One
 returns-in-One c = let e = ap (λ o. length (smalls c.args.self.atoms (size_of o))) c.in-One.is ∙ one_count c.args.self.atoms in omega arith
-
-pub returns-in-Two : goal.returns-in-Two
-returns-in-Two c =
-    let e : c.args.self.atoms + (c.args.number - c.args.self.atoms) ≡ c.args.number = omega arith in
-    subst (λ o. SetIs c.args.self.atoms (size_of o) c.args.number c.pair_at.result) (sym c.in-Two.is)
-    (subst (λ i. SetIs c.args.self.atoms 2 i c.pair_at.result) e c.pair_at.ensures)
