@@ -2,6 +2,7 @@
 use Rattle.std.proofs.Common.{◌≡◌, ℕ, zero, suc, ◌+◌, ◌-◌, ◌<◌, ◌≤◌, Bool, true, false, cond, not, ◌&&◌, ◌||◌, eqb, ltb, Some, List, [], ◌∷◌, ◌++◌, map, length, get_or, sym, refl, ap, ◌∙◌, subst, ⊎_elim, true≢false, add-one, arith, length-append, get_or-append-add, eq-eqb, eqb-true, ltb-true, lt-ltb}
 use mathlib.Core.List.{map-append}
 use lib.ListN.{length-map, get_or-append}
+use Rattle.std.proofs.lemmas.List.{get_or-map}
 use Rattle.std.proofs.lemmas.Bool.{cases_lt, cases_Bool, or_cases, or_left, and_parts}
 use Rattle.strips.specs.Sets.{Atoms, nothing, plus, joined, without, first, clipped, meets, Within}
 use Rattle.strips.specs.Task.{Action, Task, Sound, no_action}
@@ -88,15 +89,10 @@ cargo_list Two n a h = rw (apart_nothing n a) (ap (λ zs. nothing ∷ zs) (kept_
 abbrev pub extras_of : Order → Task → ℕ → List ℕ
 extras_of o t a = rising 64 (extras o t.atoms (joined (t.action a).adds (t.action a).removes))
 
-pub carriers_length : (o : Order) (t : Task) → t.atoms ≤ 64 → (a : ℕ) → length (carriers (size_of o) t a) ≡ suc (length (extras_of o t a))
+carriers_length : (o : Order) (t : Task) → t.atoms ≤ 64 → (a : ℕ) → length (carriers (size_of o) t a) ≡ suc (length (extras_of o t a))
 carriers_length o t h a =
     length-map (cargo t.atoms (size_of o) (t.action a)) (carrying t.atoms (size_of o) (t.action a))
     ∙ (ap length (cargo_list o t.atoms (t.action a) h) ∙ ap suc (length-map (extras_of o t a) single))
-
-getD_map_in : {A B : Type 0} (f : A → B) (l : List A) (i : ℕ) (d : A) (e : B) → i < length l → get_or (map f l) i e ≡ f (get_or l i d)
-getD_map_in f [] i d e h = absurd (omega arith)
-getD_map_in f (x ∷ xs) zero d e h = refl
-getD_map_in f (x ∷ xs) (suc i) d e h = getD_map_in f xs i d e (omega arith)
 
 carriers_at : (o : Order) (t : Task) → t.atoms ≤ 64 → (a j : ℕ) → j ≤ length (extras_of o t a) →
     get_or (carriers (size_of o) t a) j no_action ≡ carrying t.atoms (size_of o) (t.action a) (cargo_set (extras_of o t a) j)
@@ -110,15 +106,15 @@ carriers_at o t k a j h = ap (λ zs. get_or (map C zs) j no_action) (cargo_list 
 
     go : (j : ℕ) → j ≤ length xs → get_or (map C (nothing ∷ map single xs)) j no_action ≡ C (cargo_set xs j)
     go zero h = refl
-    go (suc i) h = getD_map_in C (map single xs) i nothing no_action (rw length-map (omega arith)) ∙ ap C (getD_map_in single xs i 0 nothing (omega arith))
+    go (suc i) h = get_or-map C (map single xs) i nothing no_action (rw length-map (omega arith)) ∙ ap C (get_or-map single xs i 0 nothing (omega arith))
 
 -- ONE ACTION AFTER ANOTHER --------------------------------------------------
 
-pub flat_length : {A : Type 0} (k : ℕ) (f : ℕ → List A) → length (flat (k + 1) f) ≡ length (flat k f) + length (f k)
+flat_length : {A : Type 0} (k : ℕ) (f : ℕ → List A) → length (flat (k + 1) f) ≡ length (flat k f) + length (f k)
 unfolding flat
 flat_length k f = rw (add-one k) (length-append (flat k f) (f k))
 
-pub flat_at : {A : Type 0} (k a j : ℕ) (f : ℕ → List A) (d : A) → a < k → j < length (f a) →
+flat_at : {A : Type 0} (k a j : ℕ) (f : ℕ → List A) (d : A) → a < k → j < length (f a) →
     (length (flat a f) + j < length (flat k f)) × (get_or (flat k f) (length (flat a f) + j) d ≡ get_or (f a) j d)
 unfolding flat
 flat_at zero a j f d h l = let z : ⊥ = omega arith in absurd z

@@ -1,21 +1,20 @@
 -- The compiled task's sets and costs, as its decoded numbers give them.
-use Rattle.std.proofs.Common.{◌≡◌, ℕ, ◌<◌, ◌≤◌, Bool, true, false, cond, ◌&&◌, ◌||◌, eqb, ltb, ◌⊎◌, length, Some, None, Option, MatchOption, IsSomeAnd, sym, refl, ap, ◌∙◌, subst, inl, inr, ⊎_elim, arith, le-ltb, eqb-true}
+use Rattle.std.proofs.Common.{◌≡◌, ℕ, ◌<◌, ◌≤◌, Bool, true, false, ◌&&◌, ltb, ◌⊎◌, length, Some, None, Option, MatchOption, IsSomeAnd, sym, refl, ap, ◌∙◌, subst, inl, inr, ⊎_elim, arith, le-ltb}
 use lib.ListN.{get_or-eq_default}
-use Rattle.std.proofs.lemmas.Bool.{cases_lt, cases_Bool}
+use Rattle.std.proofs.Math.Bool.{or-false}
+use Rattle.std.proofs.lemmas.Bool.{cases_lt}
 use Rattle.strips.specs.Sets.{Atoms, nothing, joined, clipped, inside, meets, Within}
-use Rattle.strips.specs.Task.{Task, Sound, no_action, small}
+use Rattle.strips.specs.Task.{Task, Sound, no_action}
 use Rattle.strips.specs.Bits.{members}
 use Rattle.strips.specs.Parts.{part_of}
-use Rattle.strips.specs.Rows.{row_action}
 use Rattle.strips.specs.declared.part.Part.{Part}
 use Rattle.strips.specs.declared.part.Part.TheVariants.{Needs, Adds, Removes, Start, Goal}
 use Rattle.strips.proofs.Members.{same_atoms, clipped_within}
 use Rattle.strips.proofs.Binary.{inside_each, meets_from}
 use Rattle.heuristics.specs.Smalls.{smalls, set_at}
-use Rattle.bounds.specs.Orders.{order_of, size_of, bound_denied}
+use Rattle.bounds.specs.Orders.{size_of}
 use Rattle.bounds.specs.declared.order.Order.{Order}
-use Rattle.bounds.specs.declared.order.Order.TheVariants.{One, Two}
-use Rattle.heuristics.specs.Compiled.{within, within_meeting, carrying, all_carriers, compiled}
+use Rattle.heuristics.specs.Compiled.{within, within_meeting, all_carriers, compiled}
 use Rattle.compiled.specs.Decoded.{CarrierIs, ScopeIs, scoped}
 use Rattle.compiled.specs.declared.carriers.Carrier.{Carrier}
 use Rattle.compiled.specs.declared.subsets.Scope.{Scope}
@@ -36,25 +35,18 @@ within_self o n B = same_atoms (within n (size_of o) B) (within_meeting n (size_
         ap (λ b. ltb i (length (smalls n (size_of o))) && b) (both (inside n (set_at n (size_of o) i) B) (meets n (set_at n (size_of o) i) B) (λ e. meets_from n (set_at n (size_of o) i) B p.0 p.1 p.2 (inside_each n (set_at n (size_of o) i) B e p.0 p.1 p.2)))
     go i (inr l) = rw (le-ltb i (length (smalls n (size_of o))) l)
 
-pub inside_scoped : (o : Order) (n : ℕ) (s : Scope) (B : Atoms) → members s.core ≡ B → members s.rim ≡ nothing → within n (size_of o) B ≡ scoped n (size_of o) s
+inside_scoped : (o : Order) (n : ℕ) (s : Scope) (B : Atoms) → members s.core ≡ B → members s.rim ≡ nothing → within n (size_of o) B ≡ scoped n (size_of o) s
 inside_scoped o n s B e f =
     within_self o n B
     ∙ (ap (λ C. within_meeting n (size_of o) C B) (sym (alone B))
     ∙ (ap (λ C. within_meeting n (size_of o) (joined B C) B) (sym f) ∙ ap (λ C. within_meeting n (size_of o) (joined C (members s.rim)) C) (sym e)))
   where
-    off : (b : Bool) → (b || false) ≡ b
-    off true = refl
-    off false = refl
-
     alone : (A : Atoms) → joined A nothing ≡ A
-    alone A = same_atoms (joined A nothing) A (λ p. off (A p))
+    alone A = same_atoms (joined A nothing) A (λ p. or-false (A p))
 
 -- THE ACTIONS ---------------------------------------------------------------
 
-pub action_some : (o : Order) (t : Task) (a : ℕ) (c : Carrier) → CarrierIs (size_of o) t a (Some c) → (compiled (size_of o) t).action a ≡ carrying t.atoms (size_of o) (row_action c.row) (members c.cargo)
-action_some o t a c h = h.1
-
-pub action_none : (o : Order) (t : Task) (a : ℕ) → CarrierIs (size_of o) t a None → (compiled (size_of o) t).action a ≡ no_action
+action_none : (o : Order) (t : Task) (a : ℕ) → CarrierIs (size_of o) t a None → (compiled (size_of o) t).action a ≡ no_action
 action_none o t a h = get_or-eq_default (all_carriers (size_of o) t) no_action h
 
 pub needs_scoped : (o : Order) (t : Task) (a : ℕ) (r : Option Carrier) (q : Option Scope) → CarrierIs (size_of o) t a r →
@@ -62,7 +54,7 @@ pub needs_scoped : (o : Order) (t : Task) (a : ℕ) (r : Option Carrier) (q : Op
     ScopeIs (size_of o) t.atoms ((compiled (size_of o) t).action a).needs q
 needs_scoped o t a None q h k = subst (ScopeIs (size_of o) t.atoms _) (sym k) (ap (λ b. b.needs) (action_none o t a h))
 needs_scoped o t a (Some c) None h k = absurd k
-needs_scoped o t a (Some c) (Some s) h k = ap (λ b. b.needs) (action_some o t a c h) ∙ inside_scoped o t.atoms s (joined (members c.row.needs) (members c.cargo)) k.0 k.1
+needs_scoped o t a (Some c) (Some s) h k = ap (λ b. b.needs) h.1 ∙ inside_scoped o t.atoms s (joined (members c.row.needs) (members c.cargo)) k.0 k.1
 
 -- START AND GOAL ------------------------------------------------------------
 
@@ -80,26 +72,6 @@ asked_scoped o t w h x e s B f k g = go x e k
     go (Removes a) e k = ⊎_elim (λ u. cc) (λ u. cc) e
     go Start e k = asked t.start w.start_in k
     go Goal e k = asked t.goal w.goal_in k
-
--- THE MAKING ----------------------------------------------------------------
-
-pub size_same : (k : ℕ) (o : Order) → order_of k ≡ Some o → size_of o ≡ k
-size_same k o e = ⊎_elim first (λ f. ⊎_elim (second f) (λ g. third f g) (cases_Bool (eqb k 2))) (cases_Bool (eqb k 1))
-  where
-    pick : (b c : Bool) → eqb k 1 ≡ b → eqb k 2 ≡ c → cond b (Some One) (cond c (Some Two) None) ≡ Some o
-    pick b c f g = subst (λ z. cond b (Some One) (cond z (Some Two) None) ≡ Some o) g (subst (λ z. cond z (Some One) (cond (eqb k 2) (Some Two) None) ≡ Some o) f e)
-
-    first : eqb k 1 ≡ true → size_of o ≡ k
-    first f = let q : One ≡ o = (let z = pick true (eqb k 2) f refl in cc) in ap size_of (sym q) ∙ sym (eqb-true k 1 f)
-
-    second : eqb k 1 ≡ false → eqb k 2 ≡ true → size_of o ≡ k
-    second f g = let q : Two ≡ o = (let z = pick false true f g in cc) in ap size_of (sym q) ∙ sym (eqb-true k 2 g)
-
-    third : eqb k 1 ≡ false → eqb k 2 ≡ false → size_of o ≡ k
-    third f g = let z = pick false false f g in cc
-
-pub made : (t : Task) (k : ℕ) (o : Order) → small t ≡ true → order_of k ≡ Some o → (bound_denied t k ≡ None) × (compiled (size_of o) t ≡ compiled k t)
-made t k o e f = (rw (e, f), ap (λ m. compiled m t) (size_same k o f))
 
 -- WHAT A SCOPE SAYS OF AN ATOM ----------------------------------------------
 

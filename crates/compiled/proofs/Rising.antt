@@ -1,5 +1,6 @@
 -- A set's atoms, rising.
 use Rattle.std.proofs.Common.{◌≡◌, ℕ, zero, suc, ◌+◌, ◌*◌, ◌^◌, ◌<◌, ◌≤◌, Bool, true, false, cond, not, ◌&&◌, eqb, Option, Some, None, MatchOption, List, [], ◌∷◌, ◌++◌, length, get_or, sym, refl, ap, ◌∙◌, subst, ⊎_elim, one-mul, arith, length-append, eq-eqb}
+use Rattle.std.proofs.Math.Bool.{and-false}
 use Rattle.std.proofs.lemmas.List.{append-nil}
 use Rattle.std.proofs.lemmas.Bool.{cases_lt, ne_eqb}
 use Rattle.std.specs.Iterator.{Yields, SkipsThenYields}
@@ -12,16 +13,7 @@ use Rattle.strips.proofs.Soundness.{past_within}
 use Rattle.strips.proofs.Binary.{number_below}
 use Rattle.compiled.specs.Decoded.{rising}
 
-pub rising_few : (n : ℕ) (A : Atoms) → length (rising n A) ≤ n
-unfolding rising
-rising_few zero A = omega arith
-rising_few (suc n) A = let f = rising_few n A in let l = length-append (rising n A) (cond (A n) (n ∷ []) []) in go (A n) f l
-  where
-    go : (b : Bool) → length (rising n A) ≤ n → length (rising n A ++ cond b (n ∷ []) []) ≡ length (rising n A) + length (cond b (n ∷ []) []) → length (rising n A ++ cond b (n ∷ []) []) ≤ suc n
-    go true f l = omega arith
-    go false f l = omega arith
-
--- they are as many as the bits of the set's number
+-- a set's atoms are as many as the bits of its number
 pub rising_count : (n : ℕ) (A : Atoms) → length (rising n A) ≡ ones (number n A)
 unfolding rising number ones
 rising_count zero A = refl
@@ -66,12 +58,8 @@ parted_rising (suc n) p A B l h =
     ap (λ xs. xs ++ cond (A n) (n ∷ []) []) (rising_none n A (λ q j. h.is_first q (omega arith)))
     ∙ (ap (λ b. cond b (n ∷ []) []) here
     ∙ (ap (λ z. z ∷ []) e
-    ∙ ap (λ xs. p ∷ xs) (sym (ap (λ xs. xs ++ cond (B n) (n ∷ []) []) (rising_none n B (λ q j. ap (λ C. C q) h.rest ∙ (ap (λ b. not (eqb q p) && b) (h.is_first q (omega arith)) ∙ off (not (eqb q p))))) ∙ ap (λ b. cond b (n ∷ []) []) gone)))))
+    ∙ ap (λ xs. p ∷ xs) (sym (ap (λ xs. xs ++ cond (B n) (n ∷ []) []) (rising_none n B (λ q j. ap (λ C. C q) h.rest ∙ (ap (λ b. not (eqb q p) && b) (h.is_first q (omega arith)) ∙ and-false (not (eqb q p))))) ∙ ap (λ b. cond b (n ∷ []) []) gone)))))
     (cases_lt p n)
-  where
-    off : (b : Bool) → (b && false) ≡ false
-    off true = refl
-    off false = refl
 
 -- what a call of `next` gives
 abbrev pub steps : AtomIter → Option ℕ → AtomIter → Type 0
