@@ -1,5 +1,5 @@
 //! The compiled task's actions by their numbers.
-ghost use Rattle.std.specs.Prelude.{◌≡◌, ◌<◌, ◌≤◌, length, MatchOption};
+ghost use Rattle.std.specs.Prelude.{◌≡◌, ◌≤◌, length};
 ghost use Rattle.strips.specs.Sets.{joined};
 ghost use Rattle.strips.specs.Bits.{members};
 ghost use Rattle.bounds.specs.Orders.{size_of};
@@ -37,7 +37,8 @@ fn cargo_at(extras: AtomSet, place: usize) -> Option<AtomSet>
 }
 
 impl<T: Task> Compiled<T> {
-    /// The atoms that an action can take along, one at a time: those that it neither adds nor removes.
+    /// The atoms that an action can take along, one at a time: where the sets are of one or two atoms, those that it
+    /// neither adds nor removes.
     fn extras(&self, row: Row) -> AtomSet
         ensures { members result ≡ extra_atoms self.now.order (T.Task.meaning self.now.task).atoms (joined (members row.adds) (members row.removes)) }
     {

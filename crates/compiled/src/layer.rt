@@ -1,5 +1,5 @@
 //! The compiled task as a layer over a task.
-ghost use Rattle.std.specs.Prelude.{◌≡◌, ℕ, ◌≤◌, Some, None, MatchResult};
+ghost use Rattle.std.specs.Prelude.{◌≡◌, ◌≤◌, Some, None, MatchResult};
 ghost use Rattle.bounds.specs.Orders.{size_of, bound_denied};
 ghost use Rattle.compiled.specs.Compiled.{compiled};
 

@@ -1,5 +1,5 @@
 //! The sets of one or two atoms by their numbers.
-ghost use Rattle.std.specs.Prelude.{◌≡◌, ℕ, ◌+◌, ◌<◌, ◌≤◌, ◌&&◌, length};
+ghost use Rattle.std.specs.Prelude.{◌≡◌, ◌+◌, ◌≤◌, ◌&&◌, length};
 ghost use Rattle.strips.specs.Sets.{nothing, clipped, inside, meets};
 ghost use Rattle.strips.specs.Bits.{members};
 ghost use Rattle.strips.specs.Parts.{FirstFrom};
@@ -29,26 +29,30 @@ impl Scope {
         }
     }
 
+    /// The atoms of core and rim.
+    fn all(self) -> AtomSet
+        ensures { members result ≡ around self }
+    {
+        self.core.joined(self.rim)
+    }
+
     /// Whether it takes in a set.
     fn has(self, set: AtomSet) -> bool
         ensures { result ≡ (inside 64 (members set) (around self) && meets 64 (members set) (members self.core)) }
     {
-        set.is_inside(self.core.joined(self.rim)) && set.meets(self.core)
+        set.is_inside(self.all()) && set.meets(self.core)
     }
 
     /// The first atom at or after `from` and below `high` whose pair with `high` it takes in.
     fn next_low(self, high: usize, from: usize) -> Option<usize>
         ensures { FirstFrom (lows self high) from result }
     {
-        let all = self.core.joined(self.rim);
+        let all = self.all();
         if !all.has(high) {
             return None;
         }
-        if self.core.has(high) {
-            next_below(all, high, from)
-        } else {
-            next_below(self.core, high, from)
-        }
+        let lows = if self.core.has(high) { all } else { self.core };
+        next_below(lows, high, from)
     }
 }
 

@@ -1,8 +1,6 @@
-use Rattle.std.proofs.Common.{length, ap, ◌∙◌, arith}
+use Rattle.std.proofs.Common.{arith}
 use Rattle.strips.specs.Bits.{members}
 use Rattle.strips.proofs.Members.{bits_none}
-use Rattle.heuristics.specs.Smalls.{smalls}
-use Rattle.bounds.specs.Orders.{size_of}
 use Rattle.compiled.proofs.Numbering.{one_count, single_is}
 use Rattle.compiled.proofs.subsets.SmallSets.at.Goals as goal
 
@@ -11,4 +9,4 @@ returns-then-number-self c =
     single_is c.args.self.order c.args.self.atoms c.args.number (members record { bits = 0 }) (members c.with.result) (omega arith) (omega arith) bits_none c.with.ensures
 
 pub returns-in-One : goal.returns-in-One
-returns-in-One c = let e = ap (λ o. length (smalls c.args.self.atoms (size_of o))) c.in-One.is ∙ one_count c.args.self.atoms in omega arith
+returns-in-One c = rw (c.in-One.is, one_count) (omega arith)

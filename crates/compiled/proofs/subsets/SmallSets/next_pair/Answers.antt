@@ -7,11 +7,10 @@ use Rattle.compiled.proofs.subsets.SmallSets.next_pair.Goals as goal
 
 pub loop-high-init : goal.loop-high-init
 unfolding tri
-loop-high-init c = (omega arith, λ i j h k g. let z : ⊥ = omega arith in absurd z)
+loop-high-init c = (omega arith, λ i j h k g. absurd (omega arith))
 
 pub overflow_add-result : goal.overflow_add-result
 overflow_add-result c =
-    let i = c.loop-high.invariant.0 in
     let t = tri_le c.loop-high.high (omega arith) in
     let l = lows_under c.args.scope c.loop-high.high c.in-Some.low c.in-Some.ensures.1 in
     omega arith
@@ -22,19 +21,15 @@ returns-in-Some c =
     (subst (λ z. FirstFrom (lows c.args.scope c.loop-high.high) z (Some c.in-Some.low)) c.saturating_sub.ensures c.in-Some.ensures)
 
 pub overflow_add-base : goal.overflow_add-base
-overflow_add-base c =
-    let i = c.loop-high.invariant.0 in
-    let t = tri_le c.loop-high.high (omega arith) in
-    omega arith
+overflow_add-base c = let t = tri_le c.loop-high.high (omega arith) in omega arith
 
 pub loop-high-preserved : goal.loop-high-preserved
 unfolding tri
-loop-high-preserved c =
-    let i = c.loop-high.invariant.0 in (
-      rw (add-one c.loop-high.high) (omega arith),
-      pairs_again c.args.self.atoms c.args.from c.loop-high.base c.loop-high.high c.args.scope i c.loop-high.invariant.1
-          (subst (λ z. FirstFrom (lows c.args.scope c.loop-high.high) z None) c.saturating_sub.ensures c.in_default.ensures),
-    )
+loop-high-preserved c = (
+  rw (add-one c.loop-high.high) (omega arith),
+  pairs_again c.args.self.atoms c.args.from c.loop-high.base c.loop-high.high c.args.scope c.loop-high.invariant.0 c.loop-high.invariant.1
+      (subst (λ z. FirstFrom (lows c.args.scope c.loop-high.high) z None) c.saturating_sub.ensures c.in_default.ensures),
+)
 
 pub returns : goal.returns
 returns c =

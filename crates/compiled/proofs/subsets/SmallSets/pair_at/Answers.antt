@@ -10,12 +10,12 @@ loop-high-init c = omega arith
 
 pub loop-high-preserved : goal.loop-high-preserved
 unfolding tri
-loop-high-preserved c = rw (add-one c.loop-high.high) (let i = c.loop-high.invariant in omega arith)
+loop-high-preserved c = rw (add-one c.loop-high.high) (omega arith)
 
 pub returns-then-low-high : goal.returns-then-low-high
 returns-then-low-high c =
     pair_is c.args.self.atoms c.loop-high.low c.loop-high.high c.args.place (members record { bits = 0 }) (members c.with.result) (members c.with-then-low-high.result)
-    (omega arith) (omega arith) (omega arith) c.loop-high.invariant bits_none c.with.ensures c.with-then-low-high.ensures
+    c.args.self.few c.if-low-high.true c.loop-high-test.true c.loop-high.invariant bits_none c.with.ensures c.with-then-low-high.ensures
 
 pub returns : goal.returns
-returns c = rw two_count (let i = c.loop-high.invariant in let e : c.loop-high.high ≡ c.args.self.atoms = omega arith in let t : tri c.loop-high.high ≡ tri c.args.self.atoms = ap tri e in omega arith)
+returns c = rw two_count (let e : c.loop-high.high ≡ c.args.self.atoms = omega arith in let t = ap tri e in omega arith)
