@@ -1,6 +1,7 @@
 pub mod Numbering
+pub mod Rising
 pub mod Carrying
-pub mod Whole
+pub mod Nothing
 pub mod Scoped
 pub mod Compiling
 pub mod Few

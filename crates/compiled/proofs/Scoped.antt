@@ -1,7 +1,8 @@
 -- The sets that a scope takes in, by their numbers.
-use Rattle.std.proofs.Common.{◌≡◌, ℕ, zero, suc, ◌+◌, ◌-◌, ◌<◌, ◌≤◌, Bool, true, false, not, ◌&&◌, ◌||◌, eqb, ltb, length, Some, None, Option, sym, refl, ap, ◌∙◌, subst, ⊎_elim, true≢false, arith, ltb-true, le-ltb, lt-ltb, eq-eqb, eqb-true}
+use Rattle.std.proofs.Common.{◌≡◌, ℕ, zero, suc, ◌+◌, ◌-◌, ◌<◌, ◌≤◌, Bool, true, false, not, ◌&&◌, ◌||◌, eqb, ltb, length, Some, None, Option, MatchOption, sym, refl, ap, ◌∙◌, subst, ⊎_elim, true≢false, arith, ltb-true, le-ltb, lt-ltb, eq-eqb, eqb-true}
+use Rattle.std.proofs.Math.Bool.{and-false, or-false}
 use Rattle.std.proofs.lemmas.Bool.{cases_lt, cases_eq, and_parts, and_from, or_cases, or_left, or_right}
-use Rattle.strips.specs.Sets.{Atoms, nothing, plus, joined, clipped, inside, meets, Within}
+use Rattle.strips.specs.Sets.{Atoms, nothing, plus, clipped, inside, meets, Within}
 use Rattle.strips.proofs.Members.{same_atoms}
 use Rattle.strips.proofs.Binary.{inside_each, inside_from, meets_from, meets_none, same_test}
 use Rattle.heuristics.specs.Smalls.{smalls, set_at}
@@ -11,7 +12,8 @@ use Rattle.bounds.specs.declared.order.Order.TheVariants.{One, Two}
 use Rattle.strips.specs.Bits.{members}
 use Rattle.strips.specs.Parts.{FirstFrom}
 use Rattle.heuristics.specs.Compiled.{within_meeting}
-use Rattle.compiled.specs.Decoded.{scoped, lows, scoped_pairs}
+use Rattle.strips.specs.declared.atoms.AtomSet.{AtomSet}
+use Rattle.compiled.specs.Decoded.{SetIs, around, scoped, lows, scoped_pairs}
 use Rattle.compiled.specs.declared.subsets.Scope.{Scope}
 use Rattle.compiled.proofs.Numbering.{tri, tri_below, one_count, two_count, one_at, two_at}
 
@@ -25,7 +27,7 @@ pub record Pair (n place : ℕ) : Type 0 where
   pub inside_n : high < n
   pub placed : tri high + low ≡ place
 
-pub pair_of : (n place : ℕ) → place < tri n → Pair n place
+pair_of : (n place : ℕ) → place < tri n → Pair n place
 unfolding tri
 pair_of zero place h = let z : ⊥ = omega arith in absurd z
 pair_of (suc n) place h =
@@ -97,15 +99,11 @@ meets_plus n j A B h = same_test (meets n (plus j A) B) (B j || meets n A B) the
         (or_cases (B j) (meets n A B) e)
 
 meets_one : (n i : ℕ) (B : Atoms) → i < n → meets n (one i) B ≡ B i
-meets_one n i B h = meets_plus n i nothing B h ∙ (ap (λ b. B i || b) (meets_none n nothing B (λ p l a b. true≢false (sym a))) ∙ none (B i))
-  where
-    none : (b : Bool) → (b || false) ≡ b
-    none true = refl
-    none false = refl
+meets_one n i B h = meets_plus n i nothing B h ∙ (ap (λ b. B i || b) (meets_none n nothing B (λ p l a b. true≢false (sym a))) ∙ or-false (B i))
 
 -- WHAT A SCOPE TAKES IN -----------------------------------------------------
 
-pub at_atom : (o : Order) (n i : ℕ) (B A : Atoms) → i < n → within_meeting n (size_of o) B A i ≡ (B i && A i)
+at_atom : (o : Order) (n i : ℕ) (B A : Atoms) → i < n → within_meeting n (size_of o) B A i ≡ (B i && A i)
 at_atom o n i B A h = go o
   where
     test : (m : ℕ) → (inside n (set_at n (suc m) i) B && meets n (set_at n (suc m) i) A) ≡ (B i && A i)
@@ -115,12 +113,12 @@ at_atom o n i B A h = go o
     go One = ap (λ b. b && (inside n (set_at n 1 i) B && meets n (set_at n 1 i) A)) (lt-ltb i (length (smalls n 1)) (rw one_count h)) ∙ test 0
     go Two = ap (λ b. b && (inside n (set_at n 2 i) B && meets n (set_at n 2 i) A)) (lt-ltb i (length (smalls n 2)) (rw two_count (omega arith))) ∙ test 1
 
-pub at_pair : (n i j : ℕ) (B A : Atoms) → i < j → j < n → within_meeting n 2 B A (n + tri j + i) ≡ ((B j && B i) && (A j || A i))
+at_pair : (n i j : ℕ) (B A : Atoms) → i < j → j < n → within_meeting n 2 B A (n + tri j + i) ≡ ((B j && B i) && (A j || A i))
 at_pair n i j B A h k =
     ap (λ b. b && (inside n (set_at n 2 (n + tri j + i)) B && meets n (set_at n 2 (n + tri j + i)) A)) (lt-ltb (n + tri j + i) (length (smalls n 2)) (rw two_count (let r = tri_below n i j h k in omega arith)))
     ∙ (let l : i < n = omega arith in rw (two_at n i j h k, inside_plus n j (one i) B k, inside_one n i B l, meets_plus n j (one i) A k, meets_one n i A l))
 
-pub at_none : (m n i : ℕ) (B A : Atoms) → length (smalls n m) ≤ i → within_meeting n m B A i ≡ false
+at_none : (m n i : ℕ) (B A : Atoms) → length (smalls n m) ≤ i → within_meeting n m B A i ≡ false
 at_none m n i B A h = ap (λ b. b && (inside n (set_at n m i) B && meets n (set_at n m i) A)) (le-ltb i (length (smalls n m)) h)
 
 -- SETS OF 64 ATOMS ----------------------------------------------------------
@@ -154,7 +152,7 @@ inside_wide n k A B h w = same_test (inside k A B) (inside n A B) (λ e. inside_
 meets_wide : (n k : ℕ) (A B : Atoms) → n ≤ k → Within n A → meets k A B ≡ meets n A B
 meets_wide n k A B h w = same_test (meets k A B) (meets n A B) (λ e. let r = meets_some k A B e in meets_from n A B r.0 (w r.0 r.2) r.2 r.3) (λ e. let r = meets_some n A B e in let l = r.1 in meets_from k A B r.0 (omega arith) r.2 r.3)
 
-pub scoped_by : (o : Order) (n i : ℕ) (s S B A : Atoms) → n ≤ 64 → i < length (smalls n (size_of o)) → s ≡ set_at n (size_of o) i → S ≡ B → (inside 64 s S && meets 64 s A) ≡ within_meeting n (size_of o) B A i
+scoped_by : (o : Order) (n i : ℕ) (s S B A : Atoms) → n ≤ 64 → i < length (smalls n (size_of o)) → s ≡ set_at n (size_of o) i → S ≡ B → (inside 64 s S && meets 64 s A) ≡ within_meeting n (size_of o) B A i
 scoped_by o n i s S B A h l e f =
     let w = set_within o n i l in
     ap (λ C. inside 64 C S && meets 64 C A) e
@@ -165,19 +163,11 @@ scoped_by o n i s S B A h l e f =
 
 -- THE FIRST NUMBER THAT A SCOPE TAKES IN ------------------------------------
 
--- every atom of core and rim
-abbrev pub around : Scope → Atoms
-around s = joined (members s.core) (members s.rim)
-
 pub lows_under : (s : Scope) (high low : ℕ) → lows s high low ≡ true → low < high
 lows_under s high low e = ltb-true low high (and_parts (ltb low high) ((around s high && around s low) && (members s.core high || members s.core low)) e).0
 
 pub lows_off : (s : Scope) (high i : ℕ) → around s high ≡ false → lows s high i ≡ false
-lows_off s high i e = rw e (off (ltb i high))
-  where
-    off : (b : Bool) → (b && false) ≡ false
-    off true = refl
-    off false = refl
+lows_off s high i e = rw e (and-false (ltb i high))
 
 pub lows_all : (s : Scope) (high : ℕ) → around s high ≡ true → members s.core high ≡ true → clipped high (around s) ≡ lows s high
 lows_all s high e f = same_atoms (clipped high (around s)) (lows s high) (λ i. rw (e, f) (ap (λ b. ltb i high && b) (on (around s i))))
@@ -201,11 +191,7 @@ pairs_low : (n p : ℕ) (s : Scope) → p < n → scoped_pairs n s p ≡ false
 pairs_low n p s h = rw (lt-ltb p n h)
 
 pairs_past : (n p : ℕ) (s : Scope) → n + tri n ≤ p → scoped_pairs n s p ≡ false
-pairs_past n p s h = rw (at_none 2 n p (around s) (members s.core) (rw two_count h)) (off (not (ltb p n)))
-  where
-    off : (b : Bool) → (b && false) ≡ false
-    off true = refl
-    off false = refl
+pairs_past n p s h = rw (at_none 2 n p (around s) (members s.core) (rw two_count h)) (and-false (not (ltb p n)))
 
 -- no pair whose higher atom is below `high` is taken in from `from` on
 abbrev pub NoneBelow : ℕ → Scope → ℕ → ℕ → Type 0
@@ -270,15 +256,15 @@ atom_at o n i s h = at_atom o n i (around s) (members s.core) h ∙ (both (membe
     both false true = refl
     both false false = refl
 
-pub atom_found : (o : Order) (n from p : ℕ) (s : Scope) → FirstFrom (clipped n (members s.core)) from (Some p) → FirstFrom (scoped n (size_of o) s) from (Some p)
+atom_found : (o : Order) (n from p : ℕ) (s : Scope) → FirstFrom (clipped n (members s.core)) from (Some p) → FirstFrom (scoped n (size_of o) s) from (Some p)
 atom_found o n from p s f =
     let l = ltb-true p n (and_parts (ltb p n) _ f.1).0 in
     (f.0, atom_at o n p s l ∙ f.1, λ q g h. atom_at o n q s (omega arith) ∙ f.2 q g h)
 
-pub no_more : (n from : ℕ) (s : Scope) → FirstFrom (clipped n (members s.core)) from None → FirstFrom (scoped n 1 s) from None
+no_more : (n from : ℕ) (s : Scope) → FirstFrom (clipped n (members s.core)) from None → FirstFrom (scoped n 1 s) from None
 no_more n from s f p g = ⊎_elim (λ l. atom_at One n p s l ∙ f p g) (λ l. at_none 1 n p (around s) (members s.core) (rw one_count l)) (cases_lt p n)
 
-pub then_pairs : (n from : ℕ) (s : Scope) (r : Option ℕ) → FirstFrom (clipped n (members s.core)) from None → FirstFrom (scoped_pairs n s) from r → FirstFrom (scoped n 2 s) from r
+then_pairs : (n from : ℕ) (s : Scope) (r : Option ℕ) → FirstFrom (clipped n (members s.core)) from None → FirstFrom (scoped_pairs n s) from r → FirstFrom (scoped n 2 s) from r
 then_pairs n from s r f = go r
   where
     same : (p : ℕ) → from ≤ p → scoped n 2 s p ≡ scoped_pairs n s p
@@ -288,12 +274,17 @@ then_pairs n from s r f = go r
     go None h = λ p g. same p g ∙ h p g
     go (Some q) h = (h.0, same q h.0 ∙ h.1, λ p g l. same p g ∙ h.2 p g l)
 
-pub below_found : (limit from p : ℕ) (A : Atoms) → p < limit → FirstFrom A from (Some p) → FirstFrom (clipped limit A) from (Some p)
-below_found limit from p A h f = (f.0, and_from (ltb p limit) (A p) (lt-ltb p limit h) f.1, λ q g l. ap (λ b. ltb q limit && b) (f.2 q g l) ∙ off (ltb q limit))
-  where
-    off : (b : Bool) → (b && false) ≡ false
-    off true = refl
-    off false = refl
+-- whether a scope takes in the set of a number, or of no number
+pub set_scoped : (o : Order) (n i : ℕ) (s : Scope) (r : Option AtomSet) (b : Bool) → n ≤ 64 → SetIs n (size_of o) i r →
+    MatchOption r (b ≡ false) (λ x. b ≡ (inside 64 (members x) (around s) && meets 64 (members x) (members s.core))) → b ≡ scoped n (size_of o) s i
+set_scoped o n i s None b h k e = e ∙ sym (at_none (size_of o) n i (around s) (members s.core) k)
+set_scoped o n i s (Some x) b h k e = e ∙ scoped_by o n i (members x) (around s) (around s) (members s.core) h k.0 k.1 refl
 
-pub below_none : (limit from : ℕ) (A : Atoms) → ((q : ℕ) → from ≤ q → q < limit → A q ≡ false) → FirstFrom (clipped limit A) from None
-below_none limit from A f q g = ⊎_elim (λ l. ap (λ b. b && A q) (lt-ltb q limit l) ∙ f q g l) (λ l. ap (λ b. b && A q) (le-ltb q limit l)) (cases_lt q limit)
+-- an atom of the core, or else a pair
+pub core_or_pair : (n from : ℕ) (s : Scope) (a r : Option ℕ) → FirstFrom (clipped n (members s.core)) from a → MatchOption a (FirstFrom (scoped_pairs n s) from r) (λ p. r ≡ Some p) → FirstFrom (scoped n 2 s) from r
+core_or_pair n from s None r f h = then_pairs n from s r f h
+core_or_pair n from s (Some p) r f h = subst (FirstFrom (scoped n 2 s) from) (sym h) (atom_found Two n from p s f)
+
+pub core_alone : (n from : ℕ) (s : Scope) (a : Option ℕ) → FirstFrom (clipped n (members s.core)) from a → FirstFrom (scoped n 1 s) from a
+core_alone n from s None f = no_more n from s f
+core_alone n from s (Some p) f = atom_found One n from p s f

@@ -1,2 +1,3 @@
 pub mod Compiled
 pub mod Decoded
+pub mod Soundness

@@ -1,11 +1,12 @@
 //! The compiled task's actions by their numbers.
-ghost use Rattle.std.specs.Prelude.{◌≡◌, ◌<◌, ◌≤◌, length, slice_index};
-ghost use Rattle.strips.specs.Sets.{Within};
+ghost use Rattle.std.specs.Prelude.{◌≡◌, ◌≤◌, length};
+ghost use Rattle.strips.specs.Sets.{joined};
 ghost use Rattle.strips.specs.Bits.{members};
 ghost use Rattle.bounds.specs.Orders.{size_of};
 ghost use Rattle.compiled.specs.Compiled.{all_carriers};
-ghost use Rattle.compiled.specs.Decoded.{CarrierIs, frees, extras as extra_atoms, cargo_set};
+ghost use Rattle.compiled.specs.Decoded.{CarrierIs, CargoIs, rising, extras as extra_atoms};
 
+use crate::Compiled;
 use bounds::Order;
 use strips::{AtomSet, Row, Task};
 
@@ -16,78 +17,67 @@ pub(crate) struct Carrier {
     pub(crate) cargo: AtomSet,
 }
 
-/// How many atoms an action can take along, one at a time.
-fn extras(atoms: usize, order: Order, touched: AtomSet) -> usize
-    requires { (atoms ≤ 64) × (Within atoms (members touched)) }
-    ensures { result ≡ length (extra_atoms order atoms (members touched)) }
+/// How many atoms a set has.
+fn count(set: AtomSet) -> usize
+    ensures count { result ≡ length (rising 64 (members set)) }
+    ensures few { result ≤ 64 }
 {
-    match order {
-        Order::One => 0,
-        Order::Two => atoms - touched.bits().count_ones() as usize,
-    }
+    set.bits().count_ones() as usize
 }
 
-/// The atom at a place among those that are not touched.
-fn free_atom(atoms: usize, touched: AtomSet, place: usize) -> usize
-    requires { (atoms ≤ 64) × (place < length (frees atoms (members touched))) }
-    ensures { (result ≡ slice_index (frees atoms (members touched)) place) × (result < 64) }
-{
-    let mut left = place;
-    for atom in 0..atoms {
-        if !touched.has(atom) {
-            if left == 0 {
-                return atom;
-            }
-            left -= 1;
-        }
-    }
-    unreachable()
-}
-
-/// What an action takes along at a place: first nothing, then each atom that it does not touch.
-fn cargo_at(atoms: usize, order: Order, touched: AtomSet, place: usize) -> AtomSet
-    requires { (atoms ≤ 64) × (place ≤ length (extra_atoms order atoms (members touched))) }
-    ensures { members result ≡ cargo_set (extra_atoms order atoms (members touched)) place }
+/// What an action takes along at a place: first nothing, then each of the extras.
+fn cargo_at(extras: AtomSet, place: usize) -> Option<AtomSet>
+    ensures { CargoIs (rising 64 (members extras)) place result }
 {
     if place == 0 {
-        AtomSet::EMPTY
-    } else {
-        AtomSet::EMPTY.with(free_atom(atoms, touched, place - 1))
+        return Some(AtomSet::EMPTY);
     }
+    let extra = extras.into_iter().nth(place - 1)?;
+    Some(AtomSet::EMPTY.with(extra))
 }
 
-/// The compiled task's action of a number.
-pub(crate) fn carrier_at<T: Task>(task: &T, order: Order, number: usize) -> Option<Carrier>
-    requires { (T.Task.meaning task.now).atoms ≤ 64 }
-    ensures { CarrierIs (size_of order) (T.Task.meaning task.now) number result }
-{
-    let atoms = task.atoms();
-    let mut place = number;
-    for action in 0..task.actions() {
-        let row = task.row(action);
-        let touched = row.adds.joined(row.removes);
-        let more = extras(atoms, order, touched);
-        if place <= more {
-            return Some(Carrier {
-                row,
-                cargo: cargo_at(atoms, order, touched, place),
-            });
+impl<T: Task> Compiled<T> {
+    /// The atoms that an action can take along, one at a time: where the sets are of one or two atoms, those that it
+    /// neither adds nor removes.
+    fn extras(&self, row: Row) -> AtomSet
+        ensures { members result ≡ extra_atoms self.now.order (T.Task.meaning self.now.task).atoms (joined (members row.adds) (members row.removes)) }
+    {
+        match self.order {
+            Order::One => AtomSet::EMPTY,
+            Order::Two => {
+                let touched = row.adds.joined(row.removes);
+                AtomSet::first(self.task.atoms()).without(touched)
+            }
         }
-        place -= more + 1;
     }
-    None
-}
 
-/// How many actions the compiled task has.
-pub(crate) fn count_carriers<T: Task>(task: &T, order: Order) -> usize
-    requires { (T.Task.meaning task.now).atoms ≤ 64 }
-    ensures { result ≡ length (all_carriers (size_of order) (T.Task.meaning task.now)) }
-{
-    let atoms = task.atoms();
-    let mut total = 0;
-    for action in 0..task.actions() {
-        let row = task.row(action);
-        total += extras(atoms, order, row.adds.joined(row.removes)) + 1;
+    /// The action of a number.
+    pub(crate) fn carrier(&self, number: usize) -> Option<Carrier>
+        ensures { CarrierIs (size_of self.now.order) (T.Task.meaning self.now.task) number result }
+    {
+        let mut place = number;
+        for action in 0..self.task.actions() {
+            let row = self.task.row(action);
+            let extras = self.extras(row);
+            let more = count(extras);
+            if place <= more {
+                let cargo = cargo_at(extras, place)?;
+                return Some(Carrier { row, cargo });
+            }
+            place -= more + 1;
+        }
+        None
     }
-    total
+
+    /// How many actions there are.
+    pub(crate) fn count_carriers(&self) -> usize
+        ensures { result ≡ length (all_carriers (size_of self.now.order) (T.Task.meaning self.now.task)) }
+    {
+        // A loop, since the sum of a chain over a range leaves goals here that no short answer closes.
+        let mut total = 0;
+        for action in 0..self.task.actions() {
+            total += count(self.extras(self.task.row(action))) + 1;
+        }
+        total
+    }
 }

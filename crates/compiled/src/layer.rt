@@ -1,20 +1,20 @@
 //! The compiled task as a layer over a task.
-ghost use Rattle.std.specs.Prelude.{◌≡◌, Some, None, MatchResult};
+ghost use Rattle.std.specs.Prelude.{◌≡◌, ◌≤◌, Some, None, MatchResult};
 ghost use Rattle.bounds.specs.Orders.{size_of, bound_denied};
-ghost use Rattle.compiled.specs.Compiled.{compiled, compiled_task, compiled_sound};
+ghost use Rattle.compiled.specs.Compiled.{compiled};
 
-use crate::carriers::{carrier_at, count_carriers};
-use crate::scopes::{part_has, part_next};
-use crate::subsets::subsets;
+use crate::subsets::SmallSets;
 use bounds::Order;
 use strips::{Denial, Part, Task, is_small};
 
 /// The compiled task of a task of at most 64 atoms and 256 actions. Its atoms stand for the sets of 1 to `order` atoms,
 /// its actions for an action and the atoms that it takes along, at most `order - 1`.
 #[derive(Drop)]
-pub struct Compiled<T> {
-    task: T,
-    order: Order,
+pub struct Compiled<T: Task> {
+    pub(crate) task: T,
+    pub(crate) order: Order,
+    ghost few_atoms: { (T.Task.meaning task).atoms ≤ 64 },
+    ghost few_actions: { (T.Task.meaning task).actions ≤ 256 },
 }
 
 impl<T: Task + Drop> Compiled<T> {
@@ -22,7 +22,7 @@ impl<T: Task + Drop> Compiled<T> {
     pub fn new(task: T, order: usize) -> Result<Compiled<T>, Denial>
         ensures { MatchResult result
             (λ v. (bound_denied (T.Task.meaning task) order ≡ None)
-            × (compiled_task (size_of v.order) (T.Task.meaning v.task) ≡ compiled order (T.Task.meaning task)))
+            × (⟦<Compiled<T> as Task>⟧.meaning v ≡ compiled order (T.Task.meaning task)))
             (λ d. bound_denied (T.Task.meaning task) order ≡ Some d) }
     {
         if !is_small(&task) {
@@ -35,33 +35,40 @@ impl<T: Task + Drop> Compiled<T> {
     }
 }
 
-impl<T: Task> Task for Compiled<T> {
-    ghost meaning = { λ v. compiled_task (size_of v.order) (T.Task.meaning v.task) };
+impl<T: Task> Compiled<T> {
+    /// The sets that its atoms stand for.
+    fn sets(&self) -> SmallSets
+        ensures atoms { result.atoms ≡ (T.Task.meaning self.now.task).atoms }
+        ensures order { result.order ≡ self.now.order }
+    {
+        SmallSets {
+            atoms: self.task.atoms(),
+            order: self.order,
+        }
+    }
+}
 
-    ghost sound = { λ v. compiled_sound (size_of v.order) (T.Task.meaning v.task) };
+impl<T: Task> Task for Compiled<T> {
+    ghost use Rattle.compiled.specs.Soundness.{compiled_sound};
+
+    ghost meaning = { λ v. compiled (size_of v.order) (T.Task.meaning v.task) };
+
+    ghost sound = { λ v. compiled_sound v.order (T.Task.meaning v.task) (T.Task.sound v.task) v.few_atoms v.few_actions };
 
     fn atoms(&self) -> usize {
-        if is_small(&self.task) {
-            subsets(self.task.atoms(), self.order)
-        } else {
-            0
-        }
+        self.sets().count()
     }
 
     fn actions(&self) -> usize {
-        if is_small(&self.task) {
-            count_carriers(&self.task, self.order)
-        } else {
-            0
-        }
+        self.count_carriers()
     }
 
     fn needs(&self, action: usize, atom: usize) -> bool {
-        part_has(&self.task, self.order, Part::Needs(action), atom)
+        self.holds(Part::Needs(action), atom)
     }
 
     fn adds(&self, action: usize, atom: usize) -> bool {
-        part_has(&self.task, self.order, Part::Adds(action), atom)
+        self.holds(Part::Adds(action), atom)
     }
 
     fn removes(&self, _action: usize, _atom: usize) -> bool {
@@ -69,24 +76,23 @@ impl<T: Task> Task for Compiled<T> {
     }
 
     fn cost(&self, action: usize) -> u16 {
-        if !is_small(&self.task) {
-            return 0;
-        }
-        match carrier_at(&self.task, self.order, action) {
-            Some(carrier) => carrier.row.cost,
-            None => 0,
-        }
+        self.carrier(action).map_or(0, |carrier| carrier.row.cost)
     }
 
     fn in_start(&self, atom: usize) -> bool {
-        part_has(&self.task, self.order, Part::Start, atom)
+        self.holds(Part::Start, atom)
     }
 
     fn in_goal(&self, atom: usize) -> bool {
-        part_has(&self.task, self.order, Part::Goal, atom)
+        self.holds(Part::Goal, atom)
+    }
+
+    fn holds(&self, part: Part, atom: usize) -> bool {
+        let sets = self.sets();
+        self.scope(part).is_some_and(|scope| sets.has(scope, atom))
     }
 
     fn next_of(&self, part: Part, from: usize) -> Option<usize> {
-        part_next(&self.task, self.order, part, from)
+        self.sets().next(self.scope(part)?, from)
     }
 }

@@ -1,11 +1,11 @@
 //! The sets of one or two atoms by their numbers.
-ghost use Rattle.std.specs.Prelude.{◌≡◌, ◌+◌, ◌<◌, ◌≤◌, length};
-ghost use Rattle.strips.specs.Sets.{clipped};
+ghost use Rattle.std.specs.Prelude.{◌≡◌, ◌+◌, ◌≤◌, ◌&&◌, length};
+ghost use Rattle.strips.specs.Sets.{nothing, clipped, inside, meets};
 ghost use Rattle.strips.specs.Bits.{members};
 ghost use Rattle.strips.specs.Parts.{FirstFrom};
 ghost use Rattle.bounds.specs.Smalls.{smalls};
 ghost use Rattle.bounds.specs.Orders.{size_of};
-ghost use Rattle.compiled.specs.Decoded.{SetIs, scoped, lows, scoped_pairs};
+ghost use Rattle.compiled.specs.Decoded.{SetIs, around, scoped, lows, scoped_pairs};
 
 use bounds::Order;
 use strips::AtomSet;
@@ -17,54 +17,42 @@ pub(crate) struct Scope {
     pub(crate) rim: AtomSet,
 }
 
-/// How many sets there are of 1 to `order` atoms.
-pub(crate) fn subsets(atoms: usize, order: Order) -> usize
-    requires { atoms ≤ 64 }
-    ensures { result ≡ length (smalls atoms (size_of order)) }
-{
-    match order {
-        Order::One => atoms,
-        Order::Two => atoms * (atoms + 1) / 2,
-    }
-}
-
-/// The set of two atoms at a place among such sets.
-fn pair_at(atoms: usize, place: usize) -> Option<AtomSet>
-    requires { atoms ≤ 64 }
-    ensures { SetIs atoms 2 (atoms + place) result }
-{
-    let mut low = place;
-    for high in 0..atoms {
-        if low < high {
-            return Some(AtomSet::EMPTY.with(low).with(high));
+impl Scope {
+    /// The sets inside a set.
+    pub(crate) fn inside(set: AtomSet) -> Scope
+        ensures core { members result.core ≡ members set }
+        ensures rim { members result.rim ≡ nothing }
+    {
+        Scope {
+            core: set,
+            rim: AtomSet::EMPTY,
         }
-        low -= high;
     }
-    None
-}
 
-/// The set of a number.
-pub(crate) fn subset(atoms: usize, order: Order, number: usize) -> Option<AtomSet>
-    requires { atoms ≤ 64 }
-    ensures { SetIs atoms (size_of order) number result }
-{
-    if number < atoms {
-        return Some(AtomSet::EMPTY.with(number));
+    /// The atoms of core and rim.
+    fn all(self) -> AtomSet
+        ensures { members result ≡ around self }
+    {
+        self.core.joined(self.rim)
     }
-    match order {
-        Order::One => None,
-        Order::Two => pair_at(atoms, number - atoms),
-    }
-}
 
-/// Whether a scope takes in the set of a number.
-pub(crate) fn is_scoped(atoms: usize, order: Order, scope: Scope, number: usize) -> bool
-    requires { atoms ≤ 64 }
-    ensures { result ≡ scoped atoms (size_of order) scope number }
-{
-    match subset(atoms, order, number) {
-        Some(set) => set.is_inside(scope.core.joined(scope.rim)) && set.meets(scope.core),
-        None => false,
+    /// Whether it takes in a set.
+    fn has(self, set: AtomSet) -> bool
+        ensures { result ≡ (inside 64 (members set) (around self) && meets 64 (members set) (members self.core)) }
+    {
+        set.is_inside(self.all()) && set.meets(self.core)
+    }
+
+    /// The first atom at or after `from` and below `high` whose pair with `high` it takes in.
+    fn next_low(self, high: usize, from: usize) -> Option<usize>
+        ensures { FirstFrom (lows self high) from result }
+    {
+        let all = self.all();
+        if !all.has(high) {
+            return None;
+        }
+        let lows = if self.core.has(high) { all } else { self.core };
+        next_below(lows, high, from)
     }
 }
 
@@ -72,52 +60,84 @@ pub(crate) fn is_scoped(atoms: usize, order: Order, scope: Scope, number: usize)
 fn next_below(set: AtomSet, limit: usize, from: usize) -> Option<usize>
     ensures { FirstFrom (clipped limit (members set)) from result }
 {
-    match set.next(from) {
-        Some(atom) if atom < limit => Some(atom),
-        _ => None,
-    }
+    set.next(from).filter(|&atom| atom < limit)
 }
 
-/// The first atom at or after `from` and below `high` whose pair with `high` a scope takes in.
-fn next_low(scope: Scope, high: usize, from: usize) -> Option<usize>
-    ensures { FirstFrom (lows scope high) from result }
-{
-    let all = scope.core.joined(scope.rim);
-    if !all.has(high) {
-        return None;
-    }
-    if scope.core.has(high) {
-        next_below(all, high, from)
-    } else {
-        next_below(scope.core, high, from)
-    }
+/// The sets of 1 to `order` atoms, by their numbers: those of one atom first.
+#[derive(Clone, Copy)]
+pub(crate) struct SmallSets {
+    pub(crate) atoms: usize,
+    pub(crate) order: Order,
+    ghost few: { atoms ≤ 64 },
 }
 
-/// The first number of a pair at or after `from` that a scope takes in.
-fn next_pair(atoms: usize, scope: Scope, from: usize) -> Option<usize>
-    requires { atoms ≤ 64 }
-    ensures { FirstFrom (scoped_pairs atoms scope) from result }
-{
-    let mut base = atoms;
-    for high in 0..atoms {
-        if let Some(low) = next_low(scope, high, from.saturating_sub(base)) {
-            return Some(base + low);
+impl SmallSets {
+    /// How many sets there are.
+    pub(crate) fn count(self) -> usize
+        ensures { result ≡ length (smalls self.atoms (size_of self.order)) }
+    {
+        match self.order {
+            Order::One => self.atoms,
+            Order::Two => self.atoms * (self.atoms + 1) / 2,
         }
-        base += high;
     }
-    None
-}
 
-/// The first number at or after `from` of a set that a scope takes in.
-pub(crate) fn next_scoped(atoms: usize, order: Order, scope: Scope, from: usize) -> Option<usize>
-    requires { atoms ≤ 64 }
-    ensures { FirstFrom (scoped atoms (size_of order) scope) from result }
-{
-    if let Some(atom) = next_below(scope.core, atoms, from) {
-        return Some(atom);
+    /// The set of two atoms at a place among such sets.
+    fn pair_at(self, place: usize) -> Option<AtomSet>
+        ensures { SetIs self.atoms 2 (self.atoms + place) result }
+    {
+        let mut low = place;
+        for high in 0..self.atoms {
+            if low < high {
+                return Some(AtomSet::EMPTY.with(low).with(high));
+            }
+            low -= high;
+        }
+        None
     }
-    match order {
-        Order::One => None,
-        Order::Two => next_pair(atoms, scope, from),
+
+    /// The set of a number.
+    fn at(self, number: usize) -> Option<AtomSet>
+        ensures { SetIs self.atoms (size_of self.order) number result }
+    {
+        if number < self.atoms {
+            return Some(AtomSet::EMPTY.with(number));
+        }
+        match self.order {
+            Order::One => None,
+            Order::Two => self.pair_at(number - self.atoms),
+        }
+    }
+
+    /// Whether a scope takes in the set of a number.
+    pub(crate) fn has(self, scope: Scope, number: usize) -> bool
+        ensures { result ≡ scoped self.atoms (size_of self.order) scope number }
+    {
+        self.at(number).is_some_and(|set| scope.has(set))
+    }
+
+    /// The first number of a pair at or after `from` that a scope takes in.
+    fn next_pair(self, scope: Scope, from: usize) -> Option<usize>
+        ensures { FirstFrom (scoped_pairs self.atoms scope) from result }
+    {
+        let mut base = self.atoms;
+        for high in 0..self.atoms {
+            if let Some(low) = scope.next_low(high, from.saturating_sub(base)) {
+                return Some(base + low);
+            }
+            base += high;
+        }
+        None
+    }
+
+    /// The first number at or after `from` of a set that a scope takes in.
+    pub(crate) fn next(self, scope: Scope, from: usize) -> Option<usize>
+        ensures { FirstFrom (scoped self.atoms (size_of self.order) scope) from result }
+    {
+        let single = next_below(scope.core, self.atoms, from);
+        match self.order {
+            Order::One => single,
+            Order::Two => single.or_else(|| self.next_pair(scope, from)),
+        }
     }
 }

@@ -1,7 +1,0 @@
-use Rattle.std.proofs.Common.{◌≡◌, ◌+◌, length}
-use Rattle.bounds.specs.Orders.{size_of}
-use Rattle.heuristics.specs.Compiled.{flat, carriers}
-use Rattle.compiled.proofs.carriers.carrier_at.Given as goal
-
-abbrev pub invariant-loop-action : goal.invariant-loop-action
-invariant-loop-action g l = length (flat l.action (carriers (size_of l.order) (g.T.Task.meaning l.task))) + l.place ≡ l.number

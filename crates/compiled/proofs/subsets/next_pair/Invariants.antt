@@ -1,7 +1,0 @@
-use Rattle.std.proofs.Common.{◌≡◌, ◌+◌}
-use Rattle.compiled.proofs.Numbering.{tri}
-use Rattle.compiled.proofs.Scoped.{NoneBelow}
-use Rattle.compiled.proofs.subsets.next_pair.Given as goal
-
-abbrev pub invariant-loop-high : goal.invariant-loop-high
-invariant-loop-high l = (l.base ≡ l.atoms + tri l.high) × NoneBelow l.atoms l.scope l.from l.high

@@ -1,6 +1,0 @@
-use Rattle.std.proofs.Common.{◌≡◌, ◌+◌}
-use Rattle.compiled.proofs.Numbering.{tri}
-use Rattle.compiled.proofs.subsets.pair_at.Given as goal
-
-abbrev pub invariant-loop-high : goal.invariant-loop-high
-invariant-loop-high l = tri l.high + l.low ≡ l.place
