@@ -7,9 +7,9 @@ ghost use Rattle.bounds.specs.Readers.{no_set, Enters, ReadsBlock, Reads, Needin
 use strips::{AtomSet, RowTable, Task};
 
 /// How many actions a block has: as many as a set of atoms has room for.
-const BLOCK: usize = 64;
+pub(crate) const BLOCK: usize = 64;
 
-const BLOCKS: usize = 4;
+pub(crate) const BLOCKS: usize = 4;
 
 /// For each atom the actions that need it, in blocks of 64 actions: action a of block b has the number 64 b + a. A set of
 /// actions of a block is an `AtomSet` whose members are those numbers a.
