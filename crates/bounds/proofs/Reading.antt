@@ -1,5 +1,5 @@
 -- Entering actions under the atoms that they need, and finding them again.
-use Rattle.std.proofs.Common.{◌≡◌, ℕ, ◌+◌, ◌<◌, Bool, true, false, not, ◌&&◌, ◌||◌, eqb, ltb, ◌≢◌, ◌⊎◌, List, [], length, get_or, set, replicate, sym, refl, ap, ◌∙◌, subst, inl, inr, ⊎_elim, true≢false, arith, get_or-set_other, get_or-set_same, le-ltb, lt-ltb, eq-eqb, ne_eqb, eqb-true}
+use Rattle.std.proofs.Common.{◌≡◌, ℕ, ◌+◌, ◌<◌, Bool, true, false, not, ◌&&◌, ◌||◌, eqb, ltb, ◌≢◌, ◌⊎◌, List, length, get_or, set, replicate, sym, refl, ap, ◌∙◌, inl, inr, ⊎_elim, true≢false, arith, get_or-set_other, get_or-set_same, le-ltb, lt-ltb, eq-eqb, ne_eqb, eqb-true}
 use lib.ListN.{get_or-replicate}
 use Rattle.std.proofs.lemmas.Bool.{cases_eq, cases_order, cases_Bool, or_cases, or_right}
 use Rattle.strips.specs.Sets.{Atoms, nothing, joined, clipped, plus, meets}
@@ -119,11 +119,3 @@ found_all needs atoms rest actions e h a l = sym (off (actions a) (meets_none 64
     off : (x : Bool) {y : Bool} → y ≡ false → (x || y) ≡ x
     off true f = refl
     off false f = f
-
--- one block more
-pub blocks_more : (P : ℕ → List AtomSet → Type 0) (blocks : List (List AtomSet)) (k : ℕ) (x : List AtomSet) → k < length blocks → ((b : ℕ) → b < k → P b (get_or blocks b [])) → P k x → (b : ℕ) → b < k + 1 → P b (get_or (set blocks k x) b [])
-blocks_more P blocks k x l h e b m = go (cases_eq b k)
-  where
-    go : (b ≡ k) ⊎ (b ≢ k) → P b (get_or (set blocks k x) b [])
-    go (inl f) = subst (λ z. P z (get_or (set blocks k x) z [])) (sym f) (let g : get_or (set blocks k x) k [] ≡ x = rw get_or-set_same in subst (P k) (sym g) e)
-    go (inr ne) = let g : get_or (set blocks k x) b [] ≡ get_or blocks b [] = rw get_or-set_other in subst (P b) (sym g) (h b (omega arith))
