@@ -36,15 +36,15 @@ pub(crate) trait Front {
     fn value(&self, atoms: AtomSet) -> u32;
 }
 
-/// A front that passes over the actions of a task.
+/// A front that is settled by the actions of a task.
 #[derive(Drop)]
-struct Passing<'a, F> {
+struct Settling<'a, F> {
     front: &'a mut F,
     task: &'a RowTable,
     readers: Readers,
 }
 
-impl<F: Front> Passing<'_, F> {
+impl<F: Front> Settling<'_, F> {
     /// Looks at every action.
     fn look_at_all(&mut self, now: u32) {
         for action in 0..self.task.actions() {
@@ -91,32 +91,32 @@ impl<F: Front> Passing<'_, F> {
 pub(crate) fn goal_cost<F: Front + Drop>(front: &mut F, task: &RowTable) -> Option<u32> {
     let goal = task.set_of(Part::Goal);
     let readers = Readers::of(task);
-    let mut passing = Passing {
+    let mut settling = Settling {
         front,
         task,
         readers,
     };
-    let _ = passing.front.settle(0);
-    passing.look_at_all(0);
+    let _ = settling.front.settle(0);
+    settling.look_at_all(0);
     for _ in 0..F::TURNS {
-        let Some(now) = passing.next_turn(goal) else {
+        let Some(now) = settling.next_turn(goal) else {
             break;
         };
-        passing.turn(now);
+        settling.turn(now);
     }
-    reached(passing.front.value(goal))
+    reached(settling.front.value(goal))
 }
 
-/// The places of the costs up to a cost, and the least of the others.
+/// The places of the costs up to a cost, and the least of the others. Nothing here branches: with an `if` around what is kept
+/// the bound over pairs takes a quarter longer on the examples.
 pub(crate) fn up_to(costs: &[u32], now: u32) -> (AtomSet, u32) {
     let mut places = AtomSet::EMPTY;
     let mut least = NONE;
     for (place, cost) in costs.iter().enumerate() {
-        if *cost <= now {
-            places = places.with(place);
-        } else {
-            least = least.min(*cost);
-        }
+        let reached = *cost <= now;
+        let more = places.with(place);
+        places = if reached { more } else { places };
+        least = least.min(if reached { NONE } else { *cost });
     }
     (places, least)
 }

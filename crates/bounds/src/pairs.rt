@@ -111,11 +111,11 @@ impl<'a> Pairs<'a> {
     fn value_beside(&self, atom: usize, others: AtomSet) -> u32
         requires { atom < 64 }
     {
-        let mut top = 0;
-        for other in others {
-            top = top.max(self.costs.cost(atom, other));
-        }
-        top
+        others
+            .into_iter()
+            .map(|other| self.costs.cost(atom, other))
+            .max()
+            .unwrap_or(0)
     }
 }
 
@@ -162,10 +162,10 @@ impl Front for Pairs<'_> {
     }
 
     fn value(&self, atoms: AtomSet) -> u32 {
-        let mut top = 0;
-        for atom in atoms {
-            top = top.max(self.value_beside(atom, atoms));
-        }
-        top
+        atoms
+            .into_iter()
+            .map(|atom| self.value_beside(atom, atoms))
+            .max()
+            .unwrap_or(0)
     }
 }

@@ -67,10 +67,10 @@ impl Front for Singles<'_> {
     }
 
     fn value(&self, atoms: AtomSet) -> u32 {
-        let mut top = 0;
-        for atom in atoms {
-            top = top.max(self.table.entry(atom));
-        }
-        top
+        atoms
+            .into_iter()
+            .map(|atom| self.table.entry(atom))
+            .max()
+            .unwrap_or(0)
     }
 }
