@@ -26,13 +26,14 @@ pub(crate) trait Front {
     /// Settles the sets that cost a given cost at most.
     fn settle(&mut self, now: u32) -> ToLookAt;
 
-    /// The least cost of a set that is not settled, or the number that stands for none.
-    fn least(&self) -> u32;
+    /// The least cost of a set that is not settled: none where no other set can be reached.
+    fn least(&self) -> Option<u32>;
 
     /// Whether every set inside a set of atoms is settled.
     fn is_settled(&self, atoms: AtomSet) -> bool;
 
-    /// The value of a set of atoms: the greatest cost of a set inside it, and 0.
+    /// The value of a set of atoms: the greatest cost of a set inside it, and 0; the number that stands for none where one is
+    /// not reached.
     fn value(&self, atoms: AtomSet) -> u32;
 }
 
@@ -81,9 +82,10 @@ impl<F: Front> Settling<'_, F> {
     /// The cost of the next turn: there is none once the goal is settled, or where no other set can be reached.
     fn next_turn(&self, goal: AtomSet) -> Option<u32> {
         if self.front.is_settled(goal) {
-            return None;
+            None
+        } else {
+            self.front.least()
         }
-        reached(self.front.least())
     }
 }
 
@@ -96,7 +98,8 @@ pub(crate) fn goal_cost<F: Front + Drop>(front: &mut F, task: &RowTable) -> Opti
         task,
         readers,
     };
-    let _ = settling.front.settle(0);
+    // first every action, since some may need nothing
+    settling.front.settle(0);
     settling.look_at_all(0);
     for _ in 0..F::TURNS {
         let Some(now) = settling.next_turn(goal) else {

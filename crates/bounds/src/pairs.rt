@@ -3,19 +3,34 @@ ghost use Rattle.std.specs.Prelude.{◌<◌, ◌≤◌};
 
 use crate::front::{Front, ToLookAt, up_to};
 use crate::set_costs::SetCosts;
+use crate::table::reached;
 use crate::{CostTable, NONE};
 use strips::{AtomSet, Part, Row, RowTable, Task};
+
+/// The sets that an atom p is in.
+#[derive(Clone, Copy)]
+struct PairRow {
+    /// The atoms q for which {p, q} is settled, and p itself where {p} is.
+    settled: AtomSet,
+    /// The least cost among the sets whose highest atom is p and which are not settled, or the number that stands for none.
+    least: u32,
+}
+
+impl PairRow {
+    /// Nothing settled, and no cost.
+    const NOTHING: PairRow = PairRow {
+        settled: AtomSet::EMPTY,
+        least: NONE,
+    };
+}
 
 /// Sets of one or two atoms as a front.
 #[derive(Drop)]
 pub(crate) struct Pairs<'a> {
     costs: SetCosts<'a>,
-    /// Row p has the atoms q for which {p, q} is settled, and p itself where {p} is.
-    rows: [AtomSet; 64],
+    rows: [PairRow; 64],
     /// The atoms that are settled alone.
     single: AtomSet,
-    /// For each atom the least cost among the sets whose highest atom it is and which are not settled.
-    least: [u32; 64],
     /// For each action the atoms beside which its effects have been entered.
     told: [AtomSet; 256],
 }
@@ -26,9 +41,8 @@ impl<'a> Pairs<'a> {
         *table = CostTable::new();
         let mut pairs = Pairs {
             costs: SetCosts::new(table, task.atoms()),
-            rows: [AtomSet::EMPTY; 64],
+            rows: [PairRow::NOTHING; 64],
             single: AtomSet::EMPTY,
-            least: [NONE; 64],
             told: [AtomSet::EMPTY; 256],
         };
         let start = task.set_of(Part::Start);
@@ -40,7 +54,7 @@ impl<'a> Pairs<'a> {
     fn beside(&self, atoms: AtomSet) -> AtomSet {
         let mut common = self.single;
         for atom in atoms {
-            common = common.common(self.rows[atom]);
+            common = common.common(self.rows[atom].settled);
         }
         common
     }
@@ -50,8 +64,8 @@ impl<'a> Pairs<'a> {
         requires { (p < 64) × (q < 64) }
     {
         if self.costs.lower(p, q, cost) {
-            let high = p.max(q);
-            self.least[high] = self.least[high].min(cost);
+            let row = &mut self.rows[p.max(q)];
+            row.least = row.least.min(cost);
         }
     }
 
@@ -67,7 +81,7 @@ impl<'a> Pairs<'a> {
     /// Lowers the costs of each added atom with each of some others that it is not settled with.
     fn lower_added(&mut self, adds: AtomSet, others: AtomSet, cost: u32) {
         for atom in adds {
-            self.lower_beside(atom, others.without(self.rows[atom]), cost);
+            self.lower_beside(atom, others.without(self.rows[atom].settled), cost);
         }
     }
 
@@ -87,7 +101,8 @@ impl<'a> Pairs<'a> {
     /// Puts an atom into the rows of some others.
     fn put_in_rows(&mut self, atom: usize, others: AtomSet) {
         for other in others {
-            self.rows[other] = self.rows[other].with(atom);
+            let row = &mut self.rows[other];
+            row.settled = row.settled.with(atom);
         }
     }
 
@@ -97,9 +112,10 @@ impl<'a> Pairs<'a> {
         requires { high < 64 }
     {
         let (reached, least) = self.row_up_to(high, now);
-        let fresh = reached.without(self.rows[high]);
-        self.least[high] = least;
-        self.rows[high] = self.rows[high].joined(fresh);
+        let row = &mut self.rows[high];
+        let fresh = reached.without(row.settled);
+        row.least = least;
+        row.settled = row.settled.joined(fresh);
         self.put_in_rows(high, fresh);
         if fresh.has(high) {
             self.single = self.single.with(high);
@@ -142,7 +158,7 @@ impl Front for Pairs<'_> {
         let single = self.single;
         let mut changed = AtomSet::EMPTY;
         for high in 0..self.costs.atoms() {
-            if self.least[high] <= now {
+            if self.rows[high].least <= now {
                 changed = changed.joined(self.settle_row(high, now));
             }
         }
@@ -153,8 +169,12 @@ impl Front for Pairs<'_> {
         }
     }
 
-    fn least(&self) -> u32 {
-        self.least.iter().copied().min().unwrap_or(NONE)
+    fn least(&self) -> Option<u32> {
+        self.rows
+            .iter()
+            .map(|row| row.least)
+            .min()
+            .and_then(reached)
     }
 
     fn is_settled(&self, atoms: AtomSet) -> bool {

@@ -3,7 +3,8 @@ ghost use Rattle.std.specs.Prelude.{◌≡◌, ◌+◌, ◌-◌, ◌*◌, ◌/�
 
 use crate::CostTable;
 
-/// A table that is lent for a task of at most 64 atoms. A set of one atom has the atom's number, and the sets of two follow,
+/// A table that is lent for a task of at most 64 atoms. An atom is a plain number, as in a task and a table, and so the methods
+/// ask that it is below 64. A set of one atom has the atom's number, and the sets of two follow,
 /// by the higher atom and then by the lower one.
 #[derive(Drop)]
 pub(crate) struct SetCosts<'a> {

@@ -2,6 +2,7 @@
 ghost use Rattle.std.specs.Prelude.{◌<◌, ◌≤◌};
 
 use crate::front::{Front, ToLookAt, up_to};
+use crate::table::reached;
 use crate::{CostTable, NONE};
 use strips::{AtomSet, Part, Row, RowTable, Task};
 
@@ -11,7 +12,7 @@ pub(crate) struct Singles<'a> {
     table: &'a mut CostTable,
     atoms: usize,
     settled: AtomSet,
-    /// The least cost of an atom that is not settled.
+    /// The least cost of an atom that is not settled, or the number that stands for none.
     least: u32,
     ghost few_atoms: { atoms ≤ 64 },
 }
@@ -51,15 +52,15 @@ impl Front for Singles<'_> {
     }
 
     fn settle(&mut self, now: u32) -> ToLookAt {
-        let (reached, least) = up_to(self.table.entries(0, self.atoms), now);
-        let fresh = reached.without(self.settled);
-        self.settled = reached;
+        let (settled, least) = up_to(self.table.entries(0, self.atoms), now);
+        let fresh = settled.without(self.settled);
+        self.settled = settled;
         self.least = least;
         ToLookAt::Needing(fresh)
     }
 
-    fn least(&self) -> u32 {
-        self.least
+    fn least(&self) -> Option<u32> {
+        reached(self.least)
     }
 
     fn is_settled(&self, atoms: AtomSet) -> bool {
