@@ -9,6 +9,7 @@ use strips::{AtomSet, RowTable, Task};
 /// How many actions a block has: as many as a set of atoms has room for.
 pub(crate) const BLOCK: usize = 64;
 
+/// A block is a plain number below 4: a type for it would be longer than the three clauses that ask for that.
 pub(crate) const BLOCKS: usize = 4;
 
 /// For each atom the actions that need it, in blocks of 64 actions: action a of block b has the number 64 b + a. A set of

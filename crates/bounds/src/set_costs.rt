@@ -3,9 +3,9 @@ ghost use Rattle.std.specs.Prelude.{◌≡◌, ◌+◌, ◌-◌, ◌*◌, ◌/�
 
 use crate::CostTable;
 
-/// A table that is lent for a task of at most 64 atoms. An atom is a plain number, as in a task and a table, and so the methods
-/// ask that it is below 64. A set of one atom has the atom's number, and the sets of two follow,
-/// by the higher atom and then by the lower one.
+/// A table that is lent for a task of at most 64 atoms. A set of one atom has the atom's number, and the sets of two follow, by
+/// the higher atom and then by the lower one. An atom is a plain number here, as it is in a task, in a set and in a table, and
+/// so most methods ask that it is below 64.
 #[derive(Drop)]
 pub(crate) struct SetCosts<'a> {
     table: &'a mut CostTable,
@@ -16,13 +16,12 @@ pub(crate) struct SetCosts<'a> {
 impl<'a> SetCosts<'a> {
     pub(crate) fn new(table: &'a mut CostTable, atoms: usize) -> SetCosts<'a>
         requires { atoms ≤ 64 }
-        ensures { result.atoms ≡ atoms }
     {
         SetCosts { table, atoms }
     }
 
     pub(crate) fn atoms(&self) -> usize
-        ensures { (result ≡ self.now.atoms) × (result ≤ 64) }
+        ensures { result ≤ 64 }
     {
         self.atoms
     }
