@@ -33,11 +33,7 @@ impl CostTable {
     pub fn entry(&self, number: usize) -> u32
         ensures { result ≡ cost_at self.now number }
     {
-        if number < ENTRIES {
-            self.entries[number]
-        } else {
-            NONE
-        }
+        self.entries.get(number).copied().unwrap_or(NONE)
     }
 
     /// The costs of some sets whose numbers follow one another.
