@@ -1,7 +1,8 @@
 -- Entering actions under the atoms that they need, and finding them again.
-use Rattle.std.proofs.Common.{◌≡◌, ℕ, ◌+◌, ◌<◌, Bool, true, false, not, ◌&&◌, ◌||◌, eqb, ltb, ◌≢◌, ◌⊎◌, List, [], length, get_or, set, replicate, sym, refl, ap, ◌∙◌, subst, inl, inr, ⊎_elim, true≢false, arith, get_or-set_other, get_or-set_same, le-ltb, lt-ltb, eq-eqb, ne_eqb, eqb-true}
+use Rattle.std.proofs.Common.{◌≡◌, ℕ, ◌+◌, ◌<◌, Bool, true, false, not, ◌&&◌, ◌||◌, eqb, ltb, ◌≢◌, ◌⊎◌, List, length, get_or, set, replicate, sym, refl, ap, ◌∙◌, inl, inr, ⊎_elim, true≢false, arith, get_or-set_other, get_or-set_same, le-ltb, lt-ltb, eq-eqb, ne_eqb, eqb-true}
 use lib.ListN.{get_or-replicate}
-use Rattle.std.proofs.lemmas.Bool.{cases_eq, cases_order, cases_Bool, or_cases, or_right}
+use Rattle.std.proofs.Math.Bool.{or-false, or_assoc}
+use Rattle.std.proofs.lemmas.Bool.{cases_eq, cases_order, cases_Bool, or_cases, or_parts, or_right}
 use Rattle.strips.specs.Sets.{Atoms, nothing, joined, clipped, plus, meets}
 use Rattle.strips.specs.Parts.{Parted}
 use Rattle.strips.specs.Bits.{members}
@@ -71,13 +72,9 @@ block_none needs rows e p a k l =
 pub block_more : (needs : ℕ → Atoms) (k : ℕ) (old new : List AtomSet) → BlockTo needs k old → ((p a : ℕ) → p < 64 → a < 64 → row_at new p a ≡ (row_at old p a || (eqb a k && needs k p))) → BlockTo needs (k + 1) new
 block_more needs k old new h e p a x y = e p a x y ∙ (ap (λ b. b || (eqb a k && needs k p)) (h p a x y) ∙ go (cases_order a k))
   where
-    or_off : (b : Bool) → (b || false) ≡ b
-    or_off true = refl
-    or_off false = refl
-
     go : (a ≡ k) ⊎ ((a < k) ⊎ (k < a)) → ((ltb a k && needs a p) || (eqb a k && needs k p)) ≡ (ltb a (k + 1) && needs a p)
     go (inl f) = rw (le-ltb a k (omega arith), eq-eqb a k f, lt-ltb a (k + 1) (omega arith)) (ap (λ z. needs z p) (sym f))
-    go (inr (inl f)) = rw (lt-ltb a k f, ne_eqb a k (λ g. omega arith), lt-ltb a (k + 1) (omega arith)) (or_off (needs a p))
+    go (inr (inl f)) = rw (lt-ltb a k f, ne_eqb a k (λ g. omega arith), lt-ltb a (k + 1) (omega arith)) (or-false (needs a p))
     go (inr (inr f)) = rw (le-ltb a k (omega arith), ne_eqb a k (λ g. omega arith), le-ltb a (k + 1) (omega arith))
 
 -- the actions that need an atom outside of `rest` are found
@@ -93,12 +90,8 @@ meets_parted A B C p d = same_test (meets 64 A C) (C p || meets 64 B C) there ba
       where
         clash : (q : ℕ) → q < 64 → A q ≡ true → C q ≡ true → (C p || meets 64 B C) ≡ false → ⊥
         clash q l u v e =
-            let f = or_none (C p) (meets 64 B C) e in
+            let f = or_parts (C p) (meets 64 B C) e in
             ⊎_elim (λ g. true≢false (sym v ∙ (ap C (eqb-true q p g) ∙ f.0))) (λ g. true≢false (sym (meets_from 64 B C q l g v) ∙ f.1)) (or_cases (eqb q p) (B q) (sym (parted_cases A B p d q) ∙ u))
-          where
-            or_none : (x y : Bool) → (x || y) ≡ false → (x ≡ false) × (y ≡ false)
-            or_none true y g = absurd (true≢false g)
-            or_none false y g = (refl, g)
 
     back : (C p || meets 64 B C) ≡ true → meets 64 A C ≡ true
     back h = ⊎_elim (λ e. meets_from 64 A C p d.below d.is_in e) (λ e. ⊎_elim (λ f. f) (λ f. absurd (true≢false (sym e ∙ meets_none 64 B C (λ q l u v. true≢false (sym (meets_from 64 A C q l (parted_cases A B p d q ∙ or_right (eqb q p) (B q) u) v) ∙ f))))) (cases_Bool (meets 64 A C))) (or_cases (C p) (meets 64 B C) h)
@@ -107,23 +100,9 @@ pub found_more : (needs : ℕ → Atoms) (atoms rest others actions row more : A
 found_more needs atoms rest others actions row more p h d r e a l =
     ap (λ C. C a || meets 64 others (needs a)) e
     ∙ (ap (λ b. (actions a || b) || meets 64 others (needs a)) (r a l)
-    ∙ (group (actions a) (needs a p) (meets 64 others (needs a)) ∙ (ap (λ b. actions a || b) (sym (meets_parted rest others (needs a) p d)) ∙ h a l)))
-  where
-    group : (x y z : Bool) → ((x || y) || z) ≡ (x || (y || z))
-    group true y z = refl
-    group false y z = refl
+    ∙ (or_assoc (actions a) (needs a p) (meets 64 others (needs a)) ∙ (ap (λ b. actions a || b) (sym (meets_parted rest others (needs a) p d)) ∙ h a l)))
 
 pub found_all : (needs : ℕ → Atoms) (atoms rest actions : Atoms) → rest ≡ nothing → FoundBut needs atoms rest actions → (a : ℕ) → a < 64 → actions a ≡ meets 64 atoms (needs a)
-found_all needs atoms rest actions e h a l = sym (off (actions a) (meets_none 64 rest (needs a) (λ q k u v. true≢false (sym u ∙ ap (λ C. C q) e)))) ∙ h a l
-  where
-    off : (x : Bool) {y : Bool} → y ≡ false → (x || y) ≡ x
-    off true f = refl
-    off false f = f
-
--- one block more
-pub blocks_more : (P : ℕ → List AtomSet → Type 0) (blocks : List (List AtomSet)) (k : ℕ) (x : List AtomSet) → k < length blocks → ((b : ℕ) → b < k → P b (get_or blocks b [])) → P k x → (b : ℕ) → b < k + 1 → P b (get_or (set blocks k x) b [])
-blocks_more P blocks k x l h e b m = go (cases_eq b k)
-  where
-    go : (b ≡ k) ⊎ (b ≢ k) → P b (get_or (set blocks k x) b [])
-    go (inl f) = subst (λ z. P z (get_or (set blocks k x) z [])) (sym f) (let g : get_or (set blocks k x) k [] ≡ x = rw get_or-set_same in subst (P k) (sym g) e)
-    go (inr ne) = let g : get_or (set blocks k x) b [] ≡ get_or blocks b [] = rw get_or-set_other in subst (P b) (sym g) (h b (omega arith))
+found_all needs atoms rest actions e h a l =
+    let none = meets_none 64 rest (needs a) (λ q k u v. true≢false (sym u ∙ ap (λ C. C q) e)) in
+    sym (ap (λ b. actions a || b) none ∙ or-false (actions a)) ∙ h a l

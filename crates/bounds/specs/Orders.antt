@@ -1,5 +1,5 @@
 -- How large the sets are that a bound looks at.
-use Rattle.std.specs.Prelude.{ℕ, cond, Some, None, Option, ◌==◌}
+use Rattle.std.specs.Prelude.{◌≡◌, ℕ, cond, Some, None, Option, Result, MatchResult, ◌==◌}
 use Rattle.strips.specs.Task.{Task, small}
 use Rattle.strips.specs.declared.denial.Denial.{Denial}
 use Rattle.strips.specs.declared.denial.Denial.TheVariants.{OrderUnknown, TaskOutOfRange}
@@ -9,6 +9,10 @@ use Rattle.bounds.specs.declared.order.Order.TheVariants.{One, Two}
 -- the order of a number
 abbrev pub order_of : ℕ → Option Order
 order_of n = cond (n == 1) (Some One) (cond (n == 2) (Some Two) None)
+
+-- the result is the order of a number, or the refusal of a number that has none
+abbrev pub OrderOf : ℕ → Result Order Denial → Type 0
+OrderOf n r = MatchResult r (λ o. order_of n ≡ Some o) (λ d. (order_of n ≡ None) × (d ≡ OrderUnknown))
 
 -- how many atoms a set may have
 abbrev pub size_of : Order → ℕ

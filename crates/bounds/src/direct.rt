@@ -2,9 +2,10 @@
 ghost use Rattle.std.specs.Prelude.{◌≡◌, Some, None, MatchResult};
 ghost use Rattle.bounds.specs.Orders.{bound_denied};
 
-use crate::pairs::pairs_bound;
-use crate::singles::singles_bound;
-use crate::{CostTable, NONE, Order};
+use crate::front::goal_cost;
+use crate::pairs::Pairs;
+use crate::singles::Singles;
+use crate::{CostTable, Order};
 use strips::{Denial, RowTable, Task};
 
 /// The bound over sets of 1 to `order` atoms, or none: the goal's value once the goal's sets are settled. The lent table is
@@ -18,13 +19,10 @@ pub fn direct_bound<T: Task>(
 {
     let mut rows = RowTable::new();
     rows.copy_from(task)?;
-    let Some(order) = Order::of(order) else {
-        return Err(Denial::OrderUnknown);
-    };
-    let cost = match order {
-        Order::One => singles_bound(table, &rows),
-        Order::Two => pairs_bound(table, &rows),
+    let cost = match Order::try_from(order)? {
+        Order::One => goal_cost(&mut Singles::new(table, &rows), &rows),
+        Order::Two => goal_cost(&mut Pairs::new(table, &rows), &rows),
     };
     *table = CostTable::new();
-    Ok(if cost == NONE { None } else { Some(cost) })
+    Ok(cost)
 }

@@ -2,11 +2,13 @@
 #![tactic(auto)]
 
 mod direct;
+mod front;
 mod max;
 mod numbers;
 mod order;
 mod pairs;
 mod readers;
+mod set_costs;
 mod singles;
 mod table;
 

@@ -1,23 +1,26 @@
 //! How large the sets are that a bound looks at.
-ghost use Rattle.std.specs.Prelude.{◌≡◌};
-ghost use Rattle.bounds.specs.Orders.{order_of};
+ghost use Rattle.bounds.specs.Orders.{OrderOf};
+
+use strips::Denial;
 
 /// Sets of one atom, or of one or two.
-#[derive(Clone, Copy)]
+#[derive(Clone, Copy, Debug, PartialEq, Eq)]
 pub enum Order {
     One = 1,
     Two = 2,
 }
 
-impl Order {
-    /// The order of a number, 1 or 2.
-    pub fn of(number: usize) -> Option<Order>
-        ensures { result ≡ order_of number }
-    {
+/// The order of a number, 1 or 2.
+impl TryFrom<usize> for Order {
+    type Error = Denial;
+
+    ghost try_from_gives = { OrderOf };
+
+    fn try_from(number: usize) -> Result<Order, Denial> {
         match number {
-            1 => Some(Order::One),
-            2 => Some(Order::Two),
-            _ => None,
+            1 => Ok(Order::One),
+            2 => Ok(Order::Two),
+            _ => Err(Denial::OrderUnknown),
         }
     }
 }

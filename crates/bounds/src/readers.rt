@@ -7,9 +7,10 @@ ghost use Rattle.bounds.specs.Readers.{no_set, Enters, ReadsBlock, Reads, Needin
 use strips::{AtomSet, RowTable, Task};
 
 /// How many actions a block has: as many as a set of atoms has room for.
-const BLOCK: usize = 64;
+pub(crate) const BLOCK: usize = 64;
 
-const BLOCKS: usize = 4;
+/// A block is a plain number below 4: a type for it would be longer than the three clauses that ask for that.
+pub(crate) const BLOCKS: usize = 4;
 
 /// For each atom the actions that need it, in blocks of 64 actions: action a of block b has the number 64 b + a. A set of
 /// actions of a block is an `AtomSet` whose members are those numbers a.
@@ -23,18 +24,9 @@ fn enter(block: &mut [AtomSet; 64], needs: AtomSet, action: usize)
     requires { action < 64 }
     ensures { Enters block.old block.new (members needs) action }
 {
-    let mut rest = needs;
-    while let Some((atom, others)) = rest.split_first() {
-        rest = others;
+    for atom in needs {
         block[atom] = block[atom].with(action);
     }
-}
-
-/// No action under any atom.
-fn no_readers() -> [AtomSet; 64]
-    ensures { result ≡ replicate 64 no_set }
-{
-    [AtomSet::EMPTY; 64]
 }
 
 /// The readers among one block of actions.
@@ -42,7 +34,7 @@ fn block_of(task: &RowTable, block: usize) -> [AtomSet; 64]
     requires { block < 4 }
     ensures { ReadsBlock (table_task task.now) block result }
 {
-    let mut readers = no_readers();
+    let mut readers = [AtomSet::EMPTY; 64];
     for action in 0..BLOCK {
         enter(&mut readers, task.row(BLOCK * block + action).needs, action);
     }
@@ -54,9 +46,9 @@ impl Readers {
     pub(crate) fn of(task: &RowTable) -> Readers
         ensures { Reads (table_task task.now) result }
     {
-        let mut blocks = [no_readers(); BLOCKS];
-        for block in 0..BLOCKS {
-            blocks[block] = block_of(task, block);
+        let mut blocks = [[AtomSet::EMPTY; 64]; BLOCKS];
+        for (number, block) in blocks.iter_mut().enumerate() {
+            *block = block_of(task, number);
         }
         Readers { blocks }
     }
@@ -67,9 +59,7 @@ impl Readers {
         ensures { Needing self.now block (members atoms) (members result) }
     {
         let mut actions = AtomSet::EMPTY;
-        let mut rest = atoms;
-        while let Some((atom, others)) = rest.split_first() {
-            rest = others;
+        for atom in atoms {
             actions = actions.joined(self.blocks[block][atom]);
         }
         actions

@@ -1,28 +1,16 @@
 //! Costs of sets of atoms.
-ghost use Rattle.std.specs.Prelude.{◌≡◌, ◌+◌, ◌-◌, ◌*◌, ◌/◌, ◌<◌, ◌≤◌, replicate};
+ghost use Rattle.std.specs.Prelude.{◌≡◌, ◌+◌, ◌<◌, ◌≤◌, replicate};
 ghost use Rattle.bounds.specs.Costs.{cost_at, above, lowered};
 
-/// The cost of a set that nothing reaches.
+/// The cost of a set that nothing reaches. An entry has this number, and is no `Option`, since `None` comes before every cost.
 pub const NONE: u32 = u32::MAX;
 
 /// How many sets of one or two of 64 atoms there are.
 const ENTRIES: usize = 2080;
 
-/// The number of the first set of two atoms whose higher one is `high`; the others follow by the lower one.
-pub(crate) fn row_start(atoms: usize, high: usize) -> usize
-    requires { (atoms ≤ 64) × (high < 64) }
-    ensures is { result ≡ atoms + high * (high - 1) / 2 }
-    ensures room { result + high ≤ 2080 }
-{
-    atoms + high * high.saturating_sub(1) / 2
-}
-
-/// The number of the set of two atoms.
-pub(crate) fn pair_number(atoms: usize, low: usize, high: usize) -> usize
-    requires { (atoms ≤ 64) × ((low < high) × (high < 64)) }
-    ensures { result ≡ atoms + high * (high - 1) / 2 + low }
-{
-    row_start(atoms, high) + low
+/// A cost, or none where it is the one of a set that nothing reaches.
+pub(crate) fn reached(cost: u32) -> Option<u32> {
+    (cost != NONE).then_some(cost)
 }
 
 /// A cost, or none, for every set of one or two atoms, by the set's number.
@@ -45,19 +33,14 @@ impl CostTable {
     pub fn entry(&self, number: usize) -> u32
         ensures { result ≡ cost_at self.now number }
     {
-        if number < ENTRIES {
-            self.entries[number]
-        } else {
-            NONE
-        }
+        self.entries.get(number).copied().unwrap_or(NONE)
     }
 
-    /// The costs of the sets of two atoms whose higher one is `high`, by the lower one.
-    pub(crate) fn row(&self, atoms: usize, high: usize) -> &[u32]
-        requires { (atoms ≤ 64) × (high < 64) }
+    /// The costs of some sets whose numbers follow one another.
+    pub(crate) fn entries(&self, from: usize, count: usize) -> &[u32]
+        requires { from + count ≤ 2080 }
     {
-        let from = row_start(atoms, high);
-        &self.entries[from..from + high]
+        &self.entries[from..from + count]
     }
 
     /// Lowers the cost of a set to another, and says whether it was above that.

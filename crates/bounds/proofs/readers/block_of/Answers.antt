@@ -1,4 +1,4 @@
-use Rattle.std.proofs.Common.{◌+◌, ◌*◌, ◌&&◌, ◌||◌, eqb, ap, ◌∙◌, arith, lt-ltb}
+use Rattle.std.proofs.Common.{refl, ◌+◌, ◌*◌, ◌&&◌, ◌||◌, eqb, ap, ◌∙◌, arith, lt-ltb}
 use Rattle.strips.specs.Task.{Action}
 use Rattle.strips.specs.Table.{table_task}
 use Rattle.bounds.specs.Readers.{row_at}
@@ -6,7 +6,7 @@ use Rattle.bounds.proofs.Reading.{block_none, block_more}
 use Rattle.bounds.proofs.readers.block_of.Goals as goal
 
 pub loop-action-init : goal.loop-action-init
-loop-action-init c = block_none (λ a. ((table_task c.args.task.now).action (64 * c.args.block + a)).needs) c.no_readers-readers.result c.no_readers-readers.ensures
+loop-action-init c = block_none (λ a. ((table_task c.args.task.now).action (64 * c.args.block + a)).needs) _ refl
 
 pub loop-action-preserved : goal.loop-action-preserved
 loop-action-preserved c = block_more (λ a. ((table_task c.args.task.now).action (64 * c.args.block + a)).needs) c.loop-action.action c.loop-action.readers c.enter.new.block c.loop-action.invariant

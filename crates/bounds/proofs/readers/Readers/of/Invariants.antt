@@ -3,5 +3,5 @@ use Rattle.strips.specs.Table.{table_task}
 use Rattle.bounds.specs.Readers.{ReadsBlock}
 use Rattle.bounds.proofs.readers.Readers.of.Given as goal
 
-abbrev pub invariant-loop-block : goal.invariant-loop-block
-invariant-loop-block l = (length l.blocks ≡ 4) × ((b : ℕ) → b < l.block → ReadsBlock (table_task l.task) b (get_or l.blocks b []))
+abbrev pub invariant-loop-number : goal.invariant-loop-number
+invariant-loop-number l = (length l.block-items ≡ 4) × ((b : ℕ) → b < l.number → ReadsBlock (table_task l.task) b (get_or l.block-items b []))
