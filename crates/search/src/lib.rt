@@ -5,9 +5,10 @@ ghost use Rattle.std.specs.Prelude.{ℕ, ◌<◌, IfOk, IfSome};
 
 mod place;
 mod table;
-mod way;
+mod way_back;
 
 use estimators::Estimator;
+use place::Way;
 pub use place::{Answer, Place, Refused};
 use strips::{Part, RowTable, Task};
 use table::Table;
@@ -26,7 +27,7 @@ fn turns<E: Estimator>(
         let Some(chosen) = table.choose() else {
             return Ok(None);
         };
-        let from = table.places[chosen];
+        let from = table.in_use()[chosen];
         if goal.is_inside(from.state) {
             return Ok(Some(chosen));
         }
@@ -36,33 +37,28 @@ fn turns<E: Estimator>(
             if !row.needs.is_inside(from.state) {
                 continue 'actions;
             }
-            let reached = Place {
-                state: from.state.without(row.removes).joined(row.adds),
+            let state = from.state.without(row.removes).joined(row.adds);
+            let way = Way {
                 paid: from.paid.saturating_add(u32::from(row.cost)),
-                estimate: 0,
                 parent: chosen as u16,
                 action: action as u16,
-                open: true,
             };
-            let known = table.known();
+            let known = table.in_use();
             let mut at = 0;
             let place = loop {
-                if at == known.len() || known[at] == reached.state {
+                if at == known.len() || known[at].state == state {
                     break at;
                 }
                 at += 1;
             };
-            if place < table.used {
-                table.reach(place, reached);
+            if place < known.len() {
+                table.reach(place, way);
                 continue 'actions;
             }
-            let Some(estimate) = estimator.estimate(task, reached.state)? else {
+            let Some(estimate) = estimator.estimate(task, state)? else {
                 continue 'actions;
             };
-            table.put(Place {
-                estimate,
-                ..reached
-            })?;
+            table.put(Place::new(state, way, estimate))?;
         }
     }
     Err(table.full())
@@ -77,12 +73,12 @@ pub fn search<T: Task, E: Estimator>(
 ) -> Result<Answer, Refused> {
     let mut copy = RowTable::new();
     copy.copy_from(task)?;
-    let state = copy.set_of(Part::Start);
-    let Some(estimate) = estimator.estimate(&copy, state)? else {
+    let start = copy.set_of(Part::Start);
+    let Some(estimate) = estimator.estimate(&copy, start)? else {
         return Ok(Answer::Nothing(0));
     };
     let mut table = Table::new(places);
-    table.put(Place::start(state, estimate))?;
+    table.put(Place::new(start, Way::default(), estimate))?;
     match turns(&copy, estimator, &mut table)? {
         Some(goal) => table.tell(goal, plan),
         None => Ok(Answer::Nothing(table.used)),

@@ -28,13 +28,15 @@ impl Place {
         open: false,
     };
 
-    /// The place of the state that a search begins at.
-    pub(crate) fn start(state: AtomSet, estimate: u32) -> Place {
+    /// An open place.
+    pub(crate) fn new(state: AtomSet, way: Way, estimate: u32) -> Place {
         Place {
             state,
+            paid: way.paid,
             estimate,
+            parent: way.parent,
+            action: way.action,
             open: true,
-            ..Place::EMPTY
         }
     }
 
@@ -43,14 +45,22 @@ impl Place {
         u64::from(self.paid) + u64::from(self.estimate)
     }
 
-    /// An open place takes the way to `other`, which has the same state, if that is cheaper.
-    pub(crate) fn take_cheaper(&mut self, other: Place) {
-        if self.open && other.paid < self.paid {
-            self.paid = other.paid;
-            self.parent = other.parent;
-            self.action = other.action;
+    /// Takes a way that is cheaper, if the place is open.
+    pub(crate) fn reach(&mut self, way: Way) {
+        if self.open && way.paid < self.paid {
+            self.paid = way.paid;
+            self.parent = way.parent;
+            self.action = way.action;
         }
     }
+}
+
+/// A way to a state: what it costs, the place before the state, and the action between them.
+#[derive(Clone, Copy, Default)]
+pub(crate) struct Way {
+    pub(crate) paid: u32,
+    pub(crate) parent: u16,
+    pub(crate) action: u16,
 }
 
 /// What a search tells.

@@ -1,9 +1,10 @@
 //! The table of a search.
 ghost use Rattle.std.specs.Prelude.{◌≡◌, ℕ, ◌<◌, ◌+◌, ◌≤◌, length, IfOk, IfSome};
 
-use crate::way::WayBack;
+use crate::place::Way;
+use crate::way_back::WayBack;
 use crate::{Answer, Place, Refused};
-use strips::{AtomSet, Denial};
+use strips::Denial;
 
 /// The most places that are used, however long the lent table is.
 const MOST_PLACES: usize = 4096;
@@ -11,9 +12,7 @@ const MOST_PLACES: usize = 4096;
 /// The lent places, of which the first `used` are in use.
 #[derive(Drop)]
 pub(crate) struct Table<'a> {
-    pub(crate) places: &'a mut [Place],
-    /// The states of the places in use once more, side by side, since the look-up passes over many.
-    states: [AtomSet; MOST_PLACES],
+    places: &'a mut [Place],
     pub(crate) used: usize,
     ghost used_in: { used ≤ length places.now },
     ghost few: { length places.now ≤ 4096 },
@@ -25,7 +24,6 @@ impl<'a> Table<'a> {
         let room = places.len().min(MOST_PLACES);
         Table {
             places: &mut places[..room],
-            states: [AtomSet::EMPTY; MOST_PLACES],
             used: 0,
         }
     }
@@ -35,11 +33,11 @@ impl<'a> Table<'a> {
         self.places.len()
     }
 
-    /// The states of the places in use, in their order.
-    pub(crate) fn known(&self) -> &[AtomSet]
+    /// The places in use.
+    pub(crate) fn in_use(&self) -> &[Place]
         ensures { length result.now ≡ self.now.used }
     {
-        &self.states[..self.used]
+        &self.places[..self.used]
     }
 
     /// What is refused where no place is left.
@@ -57,7 +55,7 @@ impl<'a> Table<'a> {
         // a loop, since `filter` and `min_by_key` take half as long again and each turn passes over all places
         let mut best = None;
         let mut least = u64::MAX;
-        for (at, place) in self.places[..self.used].iter().enumerate() {
+        for (at, place) in self.in_use().iter().enumerate() {
             if place.open && place.rank() < least {
                 best = Some(at);
                 least = place.rank();
@@ -75,15 +73,15 @@ impl<'a> Table<'a> {
     }
 
     /// Reaches a place in use by another way.
-    pub(crate) fn reach(&mut self, place: usize, reached: Place)
+    pub(crate) fn reach(&mut self, place: usize, way: Way)
         requires { place < self.old.used }
         ensures { self.new.used ≡ self.old.used }
     {
         let places = &mut *self.places;
-        places[place].take_cheaper(reached);
+        places[place].reach(way);
     }
 
-    /// Puts a state into the next place.
+    /// Puts a place behind those in use.
     pub(crate) fn put(&mut self, place: Place) -> Result<(), Refused>
         ensures { IfOk result (λ _. self.new.used ≡ self.old.used + 1) }
     {
@@ -91,7 +89,6 @@ impl<'a> Table<'a> {
             return Err(self.full());
         }
         self.places[self.used] = place;
-        self.states[self.used] = place.state;
         self.used += 1;
         Ok(())
     }
