@@ -43,10 +43,10 @@ fn turns<E: Estimator>(
                 parent: chosen as u16,
                 action: action as u16,
             };
-            let known = table.in_use();
+            let known = table.states();
             let mut at = 0;
             let place = loop {
-                if at == known.len() || known[at].state == state {
+                if at == known.len() || known[at] == state {
                     break at;
                 }
                 at += 1;

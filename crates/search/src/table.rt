@@ -4,7 +4,7 @@ ghost use Rattle.std.specs.Prelude.{◌≡◌, ℕ, ◌<◌, ◌+◌, ◌≤◌,
 use crate::place::Way;
 use crate::way_back::WayBack;
 use crate::{Answer, Place, Refused};
-use strips::Denial;
+use strips::{AtomSet, Denial};
 
 /// The most places that are used, however long the lent table is.
 const MOST_PLACES: usize = 4096;
@@ -13,6 +13,8 @@ const MOST_PLACES: usize = 4096;
 #[derive(Drop)]
 pub(crate) struct Table<'a> {
     places: &'a mut [Place],
+    /// Their states once more, side by side, since the look-up passes over many and is slower over the places.
+    states: [AtomSet; MOST_PLACES],
     pub(crate) used: usize,
     ghost used_in: { used ≤ length places.now },
     ghost few: { length places.now ≤ 4096 },
@@ -24,6 +26,7 @@ impl<'a> Table<'a> {
         let room = places.len().min(MOST_PLACES);
         Table {
             places: &mut places[..room],
+            states: [AtomSet::EMPTY; MOST_PLACES],
             used: 0,
         }
     }
@@ -38,6 +41,13 @@ impl<'a> Table<'a> {
         ensures { length result.now ≡ self.now.used }
     {
         &self.places[..self.used]
+    }
+
+    /// The states of the places in use.
+    pub(crate) fn states(&self) -> &[AtomSet]
+        ensures { length result.now ≡ self.now.used }
+    {
+        &self.states[..self.used]
     }
 
     /// What is refused where no place is left.
@@ -89,6 +99,7 @@ impl<'a> Table<'a> {
             return Err(self.full());
         }
         self.places[self.used] = place;
+        self.states[self.used] = place.state;
         self.used += 1;
         Ok(())
     }
