@@ -1,8 +1,10 @@
 //! The places of a search table, and what a search tells.
+ghost use Rattle.std.specs.Prelude.{◌≡◌, None};
+
 use strips::{AtomSet, Denial};
 
 /// A state that the search has come to.
-#[derive(Clone, Copy)]
+#[derive(Clone, Copy, PartialEq, Eq)]
 pub struct Place {
     pub state: AtomSet,
     /// What the way to it costs.
@@ -25,10 +27,44 @@ impl Place {
         action: 0,
         open: false,
     };
+
+    /// An open place.
+    pub(crate) fn new(state: AtomSet, way: Way, estimate: u32) -> Place {
+        Place {
+            state,
+            paid: way.paid,
+            estimate,
+            parent: way.parent,
+            action: way.action,
+            open: true,
+        }
+    }
+
+    /// What a plan through the place costs at least.
+    pub(crate) fn rank(&self) -> u64 {
+        u64::from(self.paid) + u64::from(self.estimate)
+    }
+
+    /// Takes a way that is cheaper, if the place is open.
+    pub(crate) fn reach(&mut self, way: Way) {
+        if self.open && way.paid < self.paid {
+            self.paid = way.paid;
+            self.parent = way.parent;
+            self.action = way.action;
+        }
+    }
+}
+
+/// A way to a state: what it costs, the place before the state, and the action between them.
+#[derive(Clone, Copy, Default)]
+pub(crate) struct Way {
+    pub(crate) paid: u32,
+    pub(crate) parent: u16,
+    pub(crate) action: u16,
 }
 
 /// What a search tells.
-#[derive(Clone, Copy)]
+#[derive(Clone, Copy, Debug, PartialEq, Eq)]
 pub enum Answer {
     /// A cheapest plan: its length, its cost and the places used.
     Found((usize, u32, usize)),
@@ -37,8 +73,17 @@ pub enum Answer {
 }
 
 /// Why a search was refused; where no place was left, with the places used.
-#[derive(Clone, Copy)]
+#[derive(Clone, Copy, PartialEq, Eq)]
 pub struct Refused {
     pub denial: Denial,
     pub used: Option<usize>,
+}
+
+/// A refusal that tells no places.
+impl From<Denial> for Refused {
+    ghost from_gives = { λ denial refused. refused ≡ record { denial = denial; used = None } };
+
+    fn from(denial: Denial) -> Refused {
+        Refused { denial, used: None }
+    }
 }

@@ -1,0 +1,122 @@
+//! The table of a search.
+ghost use Rattle.std.specs.Prelude.{◌≡◌, ℕ, ◌<◌, ◌+◌, ◌≤◌, length, IfOk, IfSome};
+
+use crate::place::Way;
+use crate::way_back::WayBack;
+use crate::{Answer, Place, Refused};
+use strips::{AtomSet, Denial};
+
+/// The most places that are used, however long the lent table is.
+const MOST_PLACES: usize = 4096;
+
+/// The lent places, of which the first `used` are in use.
+#[derive(Drop)]
+pub(crate) struct Table<'a> {
+    places: &'a mut [Place],
+    /// Their states once more, side by side, since the look-up passes over many and is slower over the places.
+    states: [AtomSet; MOST_PLACES],
+    pub(crate) used: usize,
+    ghost used_in: { used ≤ length places.now },
+    ghost few: { length places.now ≤ 4096 },
+}
+
+impl<'a> Table<'a> {
+    /// A table with no place in use.
+    pub(crate) fn new(places: &'a mut [Place]) -> Table<'a> {
+        let room = places.len().min(MOST_PLACES);
+        Table {
+            places: &mut places[..room],
+            states: [AtomSet::EMPTY; MOST_PLACES],
+            used: 0,
+        }
+    }
+
+    /// How many places can be in use.
+    pub(crate) fn room(&self) -> usize {
+        self.places.len()
+    }
+
+    /// The places in use.
+    pub(crate) fn in_use(&self) -> &[Place]
+        ensures { length result.now ≡ self.now.used }
+    {
+        &self.places[..self.used]
+    }
+
+    /// The states of the places in use.
+    pub(crate) fn states(&self) -> &[AtomSet]
+        ensures { length result.now ≡ self.now.used }
+    {
+        &self.states[..self.used]
+    }
+
+    /// What is refused where no place is left.
+    pub(crate) fn full(&self) -> Refused {
+        Refused {
+            denial: Denial::PlacesSpent,
+            used: Some(self.used),
+        }
+    }
+
+    /// The open place of least paid + estimate, the lowest of several.
+    pub(crate) fn choose(&self) -> Option<usize>
+        ensures { IfSome result (λ place. place < self.now.used) }
+    {
+        // a loop, since `filter` and `min_by_key` take half as long again and each turn passes over all places
+        let mut best = None;
+        let mut least = u64::MAX;
+        for (at, place) in self.in_use().iter().enumerate() {
+            if place.open && place.rank() < least {
+                best = Some(at);
+                least = place.rank();
+            }
+        }
+        best
+    }
+
+    /// Closes a place in use.
+    pub(crate) fn close(&mut self, place: usize)
+        requires { place < self.old.used }
+        ensures { self.new.used ≡ self.old.used }
+    {
+        self.places[place].open = false;
+    }
+
+    /// Reaches a place in use by another way.
+    pub(crate) fn reach(&mut self, place: usize, way: Way)
+        requires { place < self.old.used }
+        ensures { self.new.used ≡ self.old.used }
+    {
+        let places = &mut *self.places;
+        places[place].reach(way);
+    }
+
+    /// Puts a place behind those in use.
+    pub(crate) fn put(&mut self, place: Place) -> Result<(), Refused>
+        ensures { IfOk result (λ _. self.new.used ≡ self.old.used + 1) }
+    {
+        if self.used == self.places.len() {
+            return Err(self.full());
+        }
+        self.places[self.used] = place;
+        self.states[self.used] = place.state;
+        self.used += 1;
+        Ok(())
+    }
+
+    fn way_back(&self, place: usize) -> WayBack<'_> {
+        WayBack::new(self.places, place)
+    }
+
+    /// Tells the plan that leads to place `goal`, and writes it to the front of `plan`.
+    pub(crate) fn tell(&self, goal: usize, plan: &mut [u16]) -> Result<Answer, Refused>
+        requires { goal < self.now.used }
+    {
+        let length = self.way_back(goal).count();
+        let slots = plan.get_mut(..length).ok_or(Denial::DoesNotFit)?;
+        for (slot, action) in slots.iter_mut().rev().zip(self.way_back(goal)) {
+            *slot = action;
+        }
+        Ok(Answer::Found((length, self.places[goal].paid, self.used)))
+    }
+}
