@@ -1,4 +1,6 @@
 //! The ways and estimators that a call chooses by their numbers.
+ghost use Rattle.embed.specs.Choice.{ChoosesWay, ChoosesEstimator};
+
 use bounds::{CostTable, direct_bound};
 use compiled::compiled_bound;
 use estimators::{Blind, ByCompiling, Direct};
@@ -14,6 +16,8 @@ pub(crate) enum Way {
 
 impl TryFrom<u32> for Way {
     type Error = Denial;
+
+    ghost try_from_gives = { ChoosesWay };
 
     fn try_from(number: u32) -> Result<Way, Denial> {
         match number {
@@ -35,29 +39,30 @@ impl Way {
     }
 }
 
-/// An estimator to search with.
+/// An estimator to search with: the blind one, or one that asks a bound.
 #[derive(Clone, Copy)]
 pub(crate) enum Estimator {
     Blind,
-    Direct,
-    Compiled,
+    Bound(Way),
 }
 
 impl TryFrom<u32> for Estimator {
     type Error = Denial;
 
+    ghost try_from_gives = { ChoosesEstimator };
+
     fn try_from(number: u32) -> Result<Estimator, Denial> {
         match number {
             0 => Ok(Estimator::Blind),
-            1 => Ok(Estimator::Direct),
-            2 => Ok(Estimator::Compiled),
+            1 => Ok(Estimator::Bound(Way::Direct)),
+            2 => Ok(Estimator::Bound(Way::Compiled)),
             _ => Err(Denial::NoSuchNumber),
         }
     }
 }
 
 impl Estimator {
-    /// Searches for a cheapest plan of a task, with the estimator over sets of 1 to `order` atoms.
+    /// Searches for a cheapest plan of a task, with a bound over sets of 1 to `order` atoms.
     pub(crate) fn search(
         self,
         task: &RowTable,
@@ -67,8 +72,10 @@ impl Estimator {
     ) -> Result<Answer, Refused> {
         match self {
             Estimator::Blind => search(task, &mut Blind, places, plan),
-            Estimator::Direct => search(task, &mut Direct::new(order), places, plan),
-            Estimator::Compiled => search(task, &mut ByCompiling::new(order), places, plan),
+            Estimator::Bound(Way::Direct) => search(task, &mut Direct::new(order), places, plan),
+            Estimator::Bound(Way::Compiled) => {
+                search(task, &mut ByCompiling::new(order), places, plan)
+            }
         }
     }
 }
