@@ -1,8 +1,19 @@
 //! Why a call is refused, and what it tells then.
-use crate::{number, tell};
 use search::Refused;
 use strips::Denial;
 use taskfile::Fault;
+
+/// The number of a refusal.
+pub(crate) fn number(denial: Denial) -> u32 {
+    u32::from(denial as u8)
+}
+
+/// Tells numbers at the front of a lent slice, where they fit.
+fn tell<const N: usize>(told: &mut [u64], numbers: [u64; N]) {
+    if let Some(front) = told.first_chunk_mut() {
+        *front = numbers;
+    }
+}
 
 /// Why a call is refused.
 #[derive(Clone, Copy)]

@@ -6,7 +6,7 @@ mod failure;
 mod text;
 
 use choice::{Estimator, Way};
-use failure::Failure;
+use failure::{Failure, number};
 use listing::listing;
 use search::{Answer, Place};
 use strips::{Denial, RowTable, Task};
@@ -17,18 +17,6 @@ use text::Text;
 const MOST_PLACES: usize = 4_096;
 
 const LISTING_PLACES: usize = 2_048;
-
-/// The number of a refusal.
-pub(crate) fn number(denial: Denial) -> u32 {
-    u32::from(denial as u8)
-}
-
-/// Tells numbers at the front of a lent slice, where they fit.
-pub(crate) fn tell<const N: usize>(told: &mut [u64], numbers: [u64; N]) {
-    if let Some(front) = told.first_chunk_mut() {
-        *front = numbers;
-    }
-}
 
 /// Tells what a call answered, or what its failure tells. Answers 0, or the number of the refusal.
 fn answer<const N: usize>(told: &mut [u64; N], outcome: Result<[u64; N], Failure>) -> u32 {
@@ -52,6 +40,7 @@ fn read(file: &[u8]) -> Result<RowTable, Failure> {
     Ok(rows)
 }
 
+/// The numbers of atoms and actions of a file.
 fn check(file: &[u8]) -> Result<[u64; 2], Failure> {
     let view = FileView::open(file)?;
     Ok([view.atoms() as u64, view.actions() as u64])
@@ -65,6 +54,7 @@ pub fn shelfline_check(file: &[u8], told: &mut [u64]) -> u32 {
     answer(told, check(file))
 }
 
+/// 1 and the bound from a file's start, or twice 0 where it is none.
 fn bound(file: &[u8], way: u32, order: u32) -> Result<[u64; 2], Failure> {
     let task = read(file)?;
     let bound = Way::try_from(way)?.bound(&task, order as usize)?;
@@ -79,6 +69,7 @@ pub fn shelfline_bound(file: &[u8], way: u32, order: u32, told: &mut [u64]) -> u
     answer(told, bound(file, way, order))
 }
 
+/// 1, the length of a cheapest plan, its cost and the places used, or 0, 0, 0 and the places used where there is no plan.
 fn search(
     file: &[u8],
     estimator: u32,
@@ -112,6 +103,7 @@ pub fn shelfline_search(
     answer(told, search(file, estimator, order, places, plan))
 }
 
+/// The length of a file's listing, which is written to `text`.
 fn list(file: &[u8], text: &mut [u8]) -> Result<[u64; 1], Failure> {
     let mut places = [Place::EMPTY; LISTING_PLACES];
     let mut plan = [0u16; LISTING_PLACES];
