@@ -7,12 +7,12 @@ use listing::seconds;
 use search::{Answer, Place, search};
 use std::process::Abort;
 use std::test::Fail;
-use strips::{Closed, Closures, Part, RowTable, Task};
+use strips::{Closed, Closures, Denial, Part, RowTable, Task};
 
 fn check_bound<T: Task>(rt: &impl Abort, task: &T, order: usize, bound: Option<u32>) {
     let mut table = CostTable::new();
-    assert_eq!(rt; direct_bound(&mut table, task, order).ok(), Some(bound));
-    assert_eq!(rt; compiled_bound(&mut table, task, order).ok(), Some(bound));
+    assert!(rt; direct_bound(&mut table, task, order) == Ok(bound));
+    assert!(rt; compiled_bound(&mut table, task, order) == Ok(bound));
 }
 
 #[test]
@@ -21,7 +21,7 @@ fn bounds(rt: HostRuntime) -> Result<(), Fail> {
     check_bound(&rt, &task, 1, Some(6));
     check_bound(&rt, &task, 2, Some(13));
     let mut closures = Closures::none();
-    assert!(rt; closures.mark(1, true).is_ok());
+    assert!(rt; closures.mark(1, true) == Ok(()));
     let Ok(closed) = Closed::new(&task, closures) else {
         return Err(Fail::new("not closed"));
     };
@@ -30,7 +30,7 @@ fn bounds(rt: HostRuntime) -> Result<(), Fail> {
     let empty = zero_loop();
     check_bound(&rt, &empty, 1, None);
     check_bound(&rt, &empty, 2, None);
-    assert!(rt; direct_bound(&mut CostTable::new(), &task, 3).is_err());
+    assert!(rt; direct_bound(&mut CostTable::new(), &task, 3) == Err(Denial::OrderUnknown));
     Ok(())
 }
 
@@ -48,40 +48,38 @@ fn pairs(rt: HostRuntime) -> Result<(), Fail> {
     Ok(())
 }
 
-// What a search of the shuttle tells: length, cost and places used, or the number of its refusal.
-fn tells<E: Estimator>(
+/// What a search of a task tells: the plan's length, its cost and the places used, or none where there is no plan.
+fn tells(
     task: &RowTable,
-    mut estimator: E,
+    estimator: &mut impl Estimator,
     places: usize,
     room: usize,
-) -> Result<(usize, u32, usize), u8>
-where
-    E: Drop,
-{
+) -> Result<Option<(usize, u32, usize)>, Denial> {
     let mut table = [Place::EMPTY; 8];
     let mut plan = [9u16; 8];
     match search(
         task,
-        &mut estimator,
+        estimator,
         &mut table[0..places.min(8)],
         &mut plan[0..room.min(8)],
     ) {
-        Ok(Answer::Found(told)) => Ok(told),
-        Ok(Answer::Nothing(_)) => Err(0),
-        Err(refused) => Err(refused.denial as u8),
+        Ok(Answer::Found(told)) => Ok(Some(told)),
+        Ok(Answer::Nothing(_)) => Ok(None),
+        Err(refused) => Err(refused.denial),
     }
 }
 
 #[test]
 fn plans(rt: HostRuntime) {
     let task = shuttle();
-    assert_eq!(rt; tells(&task, Direct::new(2), 6, 4), Ok((4, 13, 6)));
-    assert_eq!(rt; tells(&task, ByCompiling::new(2), 6, 4), Ok((4, 13, 6)));
-    assert_eq!(rt; tells(&task, Direct::new(2), 5, 4), Err(16));
-    assert_eq!(rt; tells(&task, Direct::new(2), 0, 4), Err(16));
-    assert_eq!(rt; tells(&task, Direct::new(2), 6, 3), Err(17));
-    assert_eq!(rt; tells(&task, Direct::new(3), 6, 4), Err(10));
-    assert_eq!(rt; tells(&task, Blind, 8, 8), Ok((4, 13, 6)));
+    let told = Ok(Some((4, 13, 6)));
+    assert!(rt; tells(&task, &mut Direct::new(2), 6, 4) == told);
+    assert!(rt; tells(&task, &mut ByCompiling::new(2), 6, 4) == told);
+    assert!(rt; tells(&task, &mut Direct::new(2), 5, 4) == Err(Denial::PlacesSpent));
+    assert!(rt; tells(&task, &mut Direct::new(2), 0, 4) == Err(Denial::PlacesSpent));
+    assert!(rt; tells(&task, &mut Direct::new(2), 6, 3) == Err(Denial::DoesNotFit));
+    assert!(rt; tells(&task, &mut Direct::new(3), 6, 4) == Err(Denial::OrderUnknown));
+    assert!(rt; tells(&task, &mut Blind, 8, 8) == told);
 }
 
 #[test]

@@ -1,73 +1,56 @@
 //! Task files, byte by byte.
 use crate::shuttle;
-use std::process::Abort;
 use std::test::Fail;
-use strips::{RowTable, Task};
+use strips::{Denial, RowTable, Task};
 use taskfile::{FileView, write};
 
-fn opens(rt: &impl Abort, bytes: &[u8]) {
-    assert!(rt; FileView::open(bytes).is_ok());
-}
-
-fn refused(
-    rt: &impl Abort,
-    bytes: &[u8],
-    number: u8,
-    place: usize,
-    action: Option<usize>,
-) -> Result<(), Fail> {
-    match FileView::open(bytes) {
-        Ok(_) => Err(Fail::new("it opens")),
-        Err(fault) => {
-            assert_eq!(rt; fault.denial as u8, number);
-            assert_eq!(rt; fault.place, place);
-            assert_eq!(rt; fault.action, action);
-            Ok(())
-        }
-    }
+/// The fault of a file, or none where it opens: why, at which byte, and in the record of which action.
+fn fault(bytes: &[u8]) -> Option<(Denial, usize, Option<usize>)> {
+    let fault = FileView::open(bytes).err()?;
+    Some((fault.denial, fault.place, fault.action))
 }
 
 #[test]
-fn headers(rt: HostRuntime) -> Result<(), Fail> {
-    opens(&rt, b"\x01\0\0\0\0");
-    opens(&rt, b"\x01\x40\0\0\0");
-    refused(&rt, b"", 1, 0, None)?;
-    refused(&rt, b"\x02", 2, 0, None)?;
-    refused(&rt, b"\x01\x41", 3, 1, None)?;
-    refused(&rt, b"\x01\0\x02", 1, 3, None)?;
-    refused(&rt, b"\x01\0\x02\0", 3, 2, None)?;
-    refused(&rt, b"\x01\0\0\0", 1, 4, None)?;
-    refused(&rt, b"\x01\x41\0\0\0", 3, 1, None)?;
-    refused(&rt, b"\x01\0\0\0\x04", 4, 4, None)?;
-    refused(&rt, b"\x01\0\0\0\0\0", 8, 5, None)
+fn headers(rt: HostRuntime) {
+    assert!(rt; fault(b"\x01\0\0\0\0") == None);
+    assert!(rt; fault(b"\x01\x40\0\0\0") == None);
+    assert!(rt; fault(b"") == Some((Denial::FileEnds, 0, None)));
+    assert!(rt; fault(b"\x02") == Some((Denial::VersionUnknown, 0, None)));
+    assert!(rt; fault(b"\x01\x41") == Some((Denial::SizeOutOfRange, 1, None)));
+    assert!(rt; fault(b"\x01\0\x02") == Some((Denial::FileEnds, 3, None)));
+    assert!(rt; fault(b"\x01\0\x02\0") == Some((Denial::SizeOutOfRange, 2, None)));
+    assert!(rt; fault(b"\x01\0\0\0") == Some((Denial::FileEnds, 4, None)));
+    assert!(rt; fault(b"\x01\x41\0\0\0") == Some((Denial::SizeOutOfRange, 1, None)));
+    assert!(rt; fault(b"\x01\0\0\0\x04") == Some((Denial::MapBitUnknown, 4, None)));
+    assert!(rt; fault(b"\x01\0\0\0\0\0") == Some((Denial::BytesAfterEnd, 5, None)));
 }
 
 #[test]
-fn fields(rt: HostRuntime) -> Result<(), Fail> {
-    opens(&rt, b"\x01\x02\0\0\x01\0\0\0\0\0\0\0\x03");
-    refused(&rt, b"\x01\x02\0\0\x01\0\0\0\0\0\0\0\x04", 5, 5, None)?;
-    refused(&rt, b"\x01\x02\0\0\x01\0\0\0\0\0\0\0\0", 6, 5, None)?;
-    refused(&rt, b"\x01\x02\0\0\x01\0\0\0\0\0\0\0", 1, 12, None)?;
-    opens(&rt, b"\x01\0\0\x01\0\x08\0\0");
-    refused(&rt, b"\x01\0\0\x01\0\x08\0\x01", 6, 6, Some(0))?;
-    refused(&rt, b"\x01\0\0\x01\0\x10", 4, 5, Some(0))?;
-    refused(&rt, b"\x01\0\0\x02\0\0", 1, 6, Some(1))?;
-    refused(
-        &rt,
-        b"\x01\x01\0\x01\0\x06\0\0\0\0\0\0\0\x01\0\0\0\0\0\0\0\x01",
-        7,
-        5,
-        Some(0),
-    )
+fn fields(rt: HostRuntime) {
+    let set = b"\x01\x02\0\0\x01\0\0\0\0\0\0\0";
+    assert!(rt; fault(set) == Some((Denial::FileEnds, 12, None)));
+    assert!(rt; fault(b"\x01\x02\0\0\x01\0\0\0\0\0\0\0\x03") == None);
+    assert!(rt;
+        fault(b"\x01\x02\0\0\x01\0\0\0\0\0\0\0\x04") == Some((Denial::AtomOutOfRange, 5, None))
+    );
+    assert!(rt;
+        fault(b"\x01\x02\0\0\x01\0\0\0\0\0\0\0\0") == Some((Denial::FieldAtDefault, 5, None))
+    );
+    assert!(rt; fault(b"\x01\0\0\x01\0\x08\0\0") == None);
+    assert!(rt; fault(b"\x01\0\0\x01\0\x08\0\x01") == Some((Denial::FieldAtDefault, 6, Some(0))));
+    assert!(rt; fault(b"\x01\0\0\x01\0\x10") == Some((Denial::MapBitUnknown, 5, Some(0))));
+    assert!(rt; fault(b"\x01\0\0\x02\0\0") == Some((Denial::FileEnds, 6, Some(1))));
+    let both = b"\x01\x01\0\x01\0\x06\0\0\0\0\0\0\0\x01\0\0\0\0\0\0\0\x01";
+    assert!(rt; fault(both) == Some((Denial::AddedAndRemoved, 5, Some(0))));
 }
 
 #[test]
 fn written(rt: HostRuntime) -> Result<(), Fail> {
     let task = shuttle();
     let mut out = [7u8; 120];
-    assert!(rt; write(&task, &mut out[0..118]).is_err());
+    assert!(rt; write(&task, &mut out[0..118]) == Err(Denial::DoesNotFit));
     assert_eq!(rt; out[0], 7);
-    assert_eq!(rt; write(&task, &mut out).ok(), Some(119));
+    assert!(rt; write(&task, &mut out) == Ok(119));
     assert_eq!(rt; out[4], 3);
     assert_eq!(rt; out[118], 4);
     assert_eq!(rt; out[119], 7);
@@ -76,9 +59,9 @@ fn written(rt: HostRuntime) -> Result<(), Fail> {
     };
     assert_eq!(rt; view.row(3).needs.bits(), 6);
     let mut copy = RowTable::new();
-    assert!(rt; copy.copy_from(&view).is_ok());
+    assert!(rt; copy.copy_from(&view) == Ok(()));
     let mut again = [7u8; 120];
-    assert_eq!(rt; write(&copy, &mut again).ok(), Some(119));
-    assert!(rt; again == out);
+    assert!(rt; write(&copy, &mut again) == Ok(119));
+    assert_eq!(rt; again, out);
     Ok(())
 }

@@ -1,41 +1,55 @@
 //! What row tables and layers refuse.
 use crate::{row, shuttle};
-use std::process::Abort;
-use std::test::Fail;
 use strips::{AtomSet, Closed, Closures, Denial, Errand, Task};
 
-fn refused(rt: &impl Abort, answer: Result<(), Denial>, number: u8) -> Result<(), Fail> {
-    match answer {
-        Ok(()) => Err(Fail::new("it is granted")),
-        Err(denial) => {
-            assert_eq!(rt; denial as u8, number);
-            Ok(())
-        },
+#[test]
+fn numbers(rt: HostRuntime) {
+    for (denial, number) in [
+        (Denial::FileEnds, 1),
+        (Denial::VersionUnknown, 2),
+        (Denial::SizeOutOfRange, 3),
+        (Denial::MapBitUnknown, 4),
+        (Denial::AtomOutOfRange, 5),
+        (Denial::FieldAtDefault, 6),
+        (Denial::AddedAndRemoved, 7),
+        (Denial::BytesAfterEnd, 8),
+        (Denial::NoSuchNumber, 9),
+        (Denial::OrderUnknown, 10),
+        (Denial::TaskOutOfRange, 11),
+        (Denial::ActionClosed, 12),
+        (Denial::NeedsMissing, 13),
+        (Denial::StepsSpent, 14),
+        (Denial::GoalMissing, 15),
+        (Denial::PlacesSpent, 16),
+        (Denial::DoesNotFit, 17),
+    ] {
+        assert_eq!(rt; denial as u8, number);
     }
 }
 
 #[test]
-fn rows(rt: HostRuntime) -> Result<(), Fail> {
+fn rows(rt: HostRuntime) {
     let mut task = shuttle();
-    refused(&rt, task.clear(65, 1), 3)?;
-    refused(&rt, task.set_row(4, row(16, 1, 1, 0)), 9)?;
-    refused(&rt, task.set_row(3, row(16, 1, 1, 0)), 5)?;
-    refused(&rt, task.set_row(3, row(1, 1, 1, 0)), 7)?;
-    refused(&rt, task.set_goal(AtomSet::from_bits(16)), 5)?;
+    assert!(rt; task.clear(65, 1) == Err(Denial::SizeOutOfRange));
+    assert!(rt; task.set_row(4, row(16, 1, 1, 0)) == Err(Denial::NoSuchNumber));
+    assert!(rt; task.set_row(3, row(16, 1, 1, 0)) == Err(Denial::AtomOutOfRange));
+    assert!(rt; task.set_row(3, row(1, 1, 1, 0)) == Err(Denial::AddedAndRemoved));
+    assert!(rt; task.set_goal(AtomSet::from_bits(16)) == Err(Denial::AtomOutOfRange));
     assert_eq!(rt; task.cost(3), 1);
     assert_eq!(rt; task.cost(4), 0);
     assert!(rt; task.needs(3, 2) && !task.needs(3, 64));
-    Ok(())
 }
 
 #[test]
-fn layers(rt: HostRuntime) -> Result<(), Fail> {
+fn layers(rt: HostRuntime) {
     let task = shuttle();
     let mut closures = Closures::none();
-    assert!(rt; closures.mark(4, true).is_ok());
-    refused(&rt, closures.mark(256, true), 9)?;
-    assert!(rt; Closed::new(&task, closures).is_err());
-    assert!(rt; Errand::new(&task, AtomSet::from_bits(8), AtomSet::from_bits(1)).is_ok());
-    assert!(rt; Errand::new(&task, AtomSet::from_bits(8), AtomSet::from_bits(16)).is_err());
-    Ok(())
+    assert!(rt; closures.mark(4, true) == Ok(()));
+    assert!(rt; closures.mark(256, true) == Err(Denial::NoSuchNumber));
+    assert!(rt; Closed::new(&task, closures).err() == Some(Denial::NoSuchNumber));
+    let start = AtomSet::from_bits(8);
+    assert!(rt; Errand::new(&task, start, AtomSet::from_bits(1)).is_ok());
+    assert!(rt;
+        Errand::new(&task, start, AtomSet::from_bits(16)).err() == Some(Denial::AtomOutOfRange)
+    );
 }

@@ -1,15 +1,16 @@
 //! The planner for controllers in C: include/shelfline.h says what each call does. The crate `embed_c` exports these calls.
 #![tactic(auto)]
 
+mod choice;
+mod failure;
 mod text;
 
-use bounds::{CostTable, direct_bound};
-use compiled::compiled_bound;
-use estimators::{Blind, ByCompiling, Direct};
+use choice::{Estimator, Way};
+use failure::{Failure, number};
 use listing::listing;
-use search::{Answer, Place, Refused, search};
+use search::{Answer, Place};
 use strips::{Denial, RowTable, Task};
-use taskfile::{Fault, FileView};
+use taskfile::FileView;
 use text::Text;
 
 /// The places of the largest search table, and of the listing's.
@@ -17,127 +18,77 @@ const MOST_PLACES: usize = 4_096;
 
 const LISTING_PLACES: usize = 2_048;
 
-fn number(denial: Denial) -> u32 {
-    u32::from(denial as u8)
-}
-
-/// Tells two numbers.
-fn tell(told: &mut [u64], first: u64, second: u64) {
-    if told.len() >= 2 {
-        told[0] = first;
-        told[1] = second;
+/// Tells what a call answered, or what its failure tells. Answers 0, or the number of the refusal.
+fn answer<const N: usize>(told: &mut [u64; N], outcome: Result<[u64; N], Failure>) -> u32 {
+    match outcome {
+        Ok(numbers) => {
+            *told = numbers;
+            0
+        }
+        Err(failure) => {
+            failure.tell(told);
+            failure.number()
+        }
     }
 }
 
-/// Tells four numbers.
-fn tell_four(told: &mut [u64], numbers: [u64; 4]) {
-    if told.len() >= 4 {
-        told[0] = numbers[0];
-        told[1] = numbers[1];
-        told[2] = numbers[2];
-        told[3] = numbers[3];
-    }
+/// Reads a file into a row table.
+fn read(file: &[u8]) -> Result<RowTable, Failure> {
+    let view = FileView::open(file)?;
+    let mut rows = RowTable::new();
+    rows.copy_from(&view)?;
+    Ok(rows)
 }
 
-/// Tells where a file's fault is, and answers its number.
-fn tell_fault(told: &mut [u64], fault: Fault) -> u32 {
-    let action = match fault.action {
-        Some(action) => (action as u64).saturating_add(1),
-        None => 0,
-    };
-    tell(told, fault.place as u64, action);
-    number(fault.denial)
-}
-
-/// Reads a file into a row table; a fault is told and its number answered.
-fn read(file: &[u8], rows: &mut RowTable, told: &mut [u64]) -> u32 {
-    match FileView::open(file) {
-        Err(fault) => tell_fault(told, fault),
-        Ok(view) => match rows.copy_from(&view) {
-            Ok(()) => 0,
-            Err(denial) => number(denial),
-        },
-    }
+/// The numbers of atoms and actions of a file.
+fn check(file: &[u8]) -> Result<[u64; 2], Failure> {
+    let view = FileView::open(file)?;
+    Ok([view.atoms() as u64, view.actions() as u64])
 }
 
 /// Checks a file, and tells its numbers of atoms and actions.
 pub fn shelfline_check(file: &[u8], told: &mut [u64]) -> u32 {
-    if told.len() < 2 {
+    let Some(told) = told.first_chunk_mut() else {
         return number(Denial::DoesNotFit);
-    }
-    match FileView::open(file) {
-        Err(fault) => tell_fault(told, fault),
-        Ok(view) => {
-            tell(told, view.atoms() as u64, view.actions() as u64);
-            0
-        }
-    }
+    };
+    answer(told, check(file))
+}
+
+/// 1 and the bound from a file's start, or twice 0 where it is none.
+fn bound(file: &[u8], way: u32, order: u32) -> Result<[u64; 2], Failure> {
+    let task = read(file)?;
+    let bound = Way::try_from(way)?.bound(&task, order as usize)?;
+    Ok(bound.map_or([0, 0], |bound| [1, u64::from(bound)]))
 }
 
 /// Tells a bound: direct for way 0, compiled for way 1.
 pub fn shelfline_bound(file: &[u8], way: u32, order: u32, told: &mut [u64]) -> u32 {
-    if told.len() < 2 {
+    let Some(told) = told.first_chunk_mut() else {
         return number(Denial::DoesNotFit);
-    }
-    let mut rows = RowTable::new();
-    let read = read(file, &mut rows, told);
-    if read != 0 {
-        return read;
-    }
-    let mut table = CostTable::new();
-    let answer = match way {
-        0 => direct_bound(&mut table, &rows, order as usize),
-        1 => compiled_bound(&mut table, &rows, order as usize),
-        _ => Err(Denial::NoSuchNumber),
     };
-    match answer {
-        Ok(Some(bound)) => tell(told, 1, u64::from(bound)),
-        Ok(None) => tell(told, 0, 0),
-        Err(denial) => return number(denial),
-    }
-    0
+    answer(told, bound(file, way, order))
 }
 
-/// Searches with an estimator: 0 blind, 1 direct, 2 by compiling.
-fn search_by(
-    task: &RowTable,
+/// 1, the length of a cheapest plan, its cost and the places used, or 0, 0, 0 and the places used where there is no plan.
+fn search(
+    file: &[u8],
     estimator: u32,
-    order: usize,
-    places: &mut [Place],
+    order: u32,
+    places: u32,
     plan: &mut [u16],
-) -> Result<Answer, Refused> {
-    match estimator {
-        0 => search(task, &mut Blind, places, plan),
-        1 => search(task, &mut Direct::new(order), places, plan),
-        2 => search(task, &mut ByCompiling::new(order), places, plan),
-        _ => Err(Refused {
-            denial: Denial::NoSuchNumber,
-            used: None,
-        }),
-    }
+) -> Result<[u64; 4], Failure> {
+    let task = read(file)?;
+    let estimator = Estimator::try_from(estimator)?;
+    let mut table = [Place::EMPTY; MOST_PLACES];
+    let room = (places as usize).min(MOST_PLACES);
+    let answer = estimator.search(&task, order as usize, &mut table[0..room], plan)?;
+    Ok(match answer {
+        Answer::Found((length, cost, used)) => [1, length as u64, u64::from(cost), used as u64],
+        Answer::Nothing(used) => [0, 0, 0, used as u64],
+    })
 }
 
-/// Tells what a search told, and answers its number.
-fn tell_search(told: &mut [u64], answer: Result<Answer, Refused>) -> u32 {
-    match answer {
-        Ok(Answer::Found((length, cost, used))) => {
-            tell_four(told, [1, length as u64, u64::from(cost), used as u64]);
-            0
-        }
-        Ok(Answer::Nothing(used)) => {
-            tell_four(told, [0, 0, 0, used as u64]);
-            0
-        }
-        Err(refused) => {
-            if let Some(used) = refused.used {
-                tell_four(told, [0, 0, 0, used as u64]);
-            }
-            number(refused.denial)
-        }
-    }
-}
-
-/// Searches for a cheapest plan, in a table of some places.
+/// Searches for a cheapest plan, in a table of some places, with an estimator: 0 blind, 1 direct, 2 by compiling.
 pub fn shelfline_search(
     file: &[u8],
     estimator: u32,
@@ -146,33 +97,25 @@ pub fn shelfline_search(
     plan: &mut [u16],
     told: &mut [u64],
 ) -> u32 {
-    if told.len() < 4 {
+    let Some(told) = told.first_chunk_mut() else {
         return number(Denial::DoesNotFit);
-    }
-    let mut rows = RowTable::new();
-    let read = read(file, &mut rows, told);
-    if read != 0 {
-        return read;
-    }
-    let mut table = [Place::EMPTY; MOST_PLACES];
-    let room = (places as usize).min(MOST_PLACES);
-    let answer = search_by(&rows, estimator, order as usize, &mut table[0..room], plan);
-    tell_search(told, answer)
+    };
+    answer(told, search(file, estimator, order, places, plan))
+}
+
+/// The length of a file's listing, which is written to `text`.
+fn list(file: &[u8], text: &mut [u8]) -> Result<[u64; 1], Failure> {
+    let mut places = [Place::EMPTY; LISTING_PLACES];
+    let mut plan = [0u16; LISTING_PLACES];
+    let mut out = Text::new(text);
+    listing(&mut out, file, &mut places, &mut plan).map_err(|_| Denial::DoesNotFit)?;
+    Ok([out.len() as u64])
 }
 
 /// Writes a file's listing.
 pub fn shelfline_listing(file: &[u8], text: &mut [u8], told: &mut [u64]) -> u32 {
-    if told.len() < 1 {
+    let Some(told) = told.first_chunk_mut() else {
         return number(Denial::DoesNotFit);
-    }
-    let mut places = [Place::EMPTY; LISTING_PLACES];
-    let mut plan = [0u16; LISTING_PLACES];
-    let mut out = Text::new(text);
-    match listing(&mut out, file, &mut places, &mut plan) {
-        Ok(()) => {
-            told[0] = out.len() as u64;
-            0
-        }
-        Err(_) => number(Denial::DoesNotFit),
-    }
+    };
+    answer(told, list(file, text))
 }

@@ -1,32 +1,40 @@
 //! Text written to a lent buffer.
+ghost use Rattle.std.specs.Prelude.{◌≤◌, length};
+
 use std::fmt;
 
-/// A lent buffer, and how much of it is written.
+/// A lent buffer that is written from its front: its size, and what is left of it.
 #[derive(Drop)]
 pub(crate) struct Text<'a> {
-    bytes: &'a mut [u8],
-    length: usize,
+    size: usize,
+    rest: &'a mut [u8],
+    ghost within: { length rest.now ≤ size },
 }
 
 impl<'a> Text<'a> {
     pub(crate) fn new(bytes: &'a mut [u8]) -> Text<'a> {
-        Text { bytes, length: 0 }
+        Text {
+            size: bytes.len(),
+            rest: bytes,
+        }
     }
 
+    /// How many bytes are written.
     pub(crate) fn len(&self) -> usize {
-        self.length
+        self.size - self.rest.len()
     }
 }
 
 impl fmt::Write for Text<'_> {
     fn write_str(&mut self, s: &str) -> fmt::Result {
-        for byte in s.bytes() {
-            if self.length >= self.bytes.len() {
-                return Err(fmt::Error);
-            }
-            self.bytes[self.length] = byte;
-            self.length += 1;
+        let fits = s.len().min(self.rest.len());
+        if let Some(front) = self.rest.split_off_mut(..fits) {
+            front.copy_from_slice(&s.as_bytes()[..fits]);
         }
-        Ok(())
+        if fits < s.len() {
+            Err(fmt::Error)
+        } else {
+            Ok(())
+        }
     }
 }

@@ -1,4 +1,5 @@
-//! The calls of include/shelfline.h, exported for C.
+//! The calls of include/shelfline.h, exported for C. A crate is a library or a static library, and not both, so these
+//! exports only pass their arguments on to the library `embed`.
 #![tactic(auto)]
 
 /// Checks a file, and tells its numbers of atoms and actions.
