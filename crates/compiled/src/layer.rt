@@ -28,10 +28,8 @@ impl<T: Task + Drop> Compiled<T> {
         if !is_small(&task) {
             return Err(Denial::TaskOutOfRange);
         }
-        match Order::of(order) {
-            Some(order) => Ok(Compiled { task, order }),
-            None => Err(Denial::OrderUnknown),
-        }
+        let order = Order::try_from(order)?;
+        Ok(Compiled { task, order })
     }
 }
 

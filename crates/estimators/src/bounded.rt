@@ -79,7 +79,7 @@ impl<B: Bound> Estimator for Bounded<B> {
     fn estimate<T: Task>(&mut self, task: &T, state: AtomSet) -> Result<Option<u32>, Denial> {
         sized(task)?;
         // the order is refused before the state
-        Order::of(self.order).ok_or(Denial::OrderUnknown)?;
+        Order::try_from(self.order)?;
         let errand = errand(task, state)?;
         B::bound(&mut self.table, &errand, self.order)
     }

@@ -92,6 +92,13 @@ clipped_skip n A B e a = e ∙ same_atoms (clipped n A) (clipped (n + 1) A) (λ 
     go p (inr q) (inl l) = rw (lt-ltb p n l, lt-ltb p (n + 1) (omega arith))
     go p (inr q) (inr l) = rw (le-ltb p n l, le-ltb p (n + 1) (let ne : (p ≡ n → ⊥) = q in omega arith))
 
+pub bits_of_number : (A : Atoms) → bits_of (number 64 A) ≡ clipped 64 A
+bits_of_number A = same_atoms (bits_of (number 64 A)) (clipped 64 A) (λ p. ap (λ b. ltb p 64 && b) (number_bit 64 A p) ∙ twice (ltb p 64) (A p))
+  where
+    twice : (b u : Bool) → (b && (b && u)) ≡ (b && u)
+    twice true u = refl
+    twice false u = refl
+
 -- the number of all atoms below n has just their bits
 pub bits_first : (n : ℕ) → bits_of (2 ^ n - 1) ≡ clipped 64 (first n)
 bits_first n = same_atoms (bits_of (2 ^ n - 1)) (clipped 64 (first n)) (λ p. ap (λ b. ltb p 64 && b) (ap (bit p) (let h = number_all n in all) ∙ (number_bit n (λ _. true) p ∙ yes (ltb p n))))
