@@ -9,7 +9,7 @@ use strips::Denial;
 pub(crate) const VERSION: u8 = 1;
 
 /// At most so many atoms.
-pub(crate) const ATOMS: u8 = 64;
+const ATOMS: u8 = 64;
 
 /// At most so many actions.
 pub(crate) const ACTIONS: usize = 256;
