@@ -152,9 +152,6 @@ row_back r = same_action (entry_action (entry_of (row_action r))) (row_action r)
     back : (s : AtomSet) → bits_of (number 64 (members s)) ≡ members s
     back s = set_back 64 (members s) (omega arith) (within_members s)
 
-pub sound_row : (n : ℕ) (r : Row) → WellEntry n (entry_of (row_action r)) → SoundAction n (row_action r)
-sound_row n r w = subst (λ a. SoundAction n a) (row_back r) (sound_entry n (entry_of (row_action r)) w)
-
 -- TASKS AND CONTENTS --------------------------------------------------------
 
 small_parts : (t : Task) → small t ≡ true → (t.atoms ≤ 64) × (t.actions ≤ 256)

@@ -147,12 +147,9 @@ module _ (r : Reader) where
           cost_err p q e4 = then_ok _ e.0 ∙ then_ok _ k1 ∙ then_ok _ k2 ∙ then_ok _ k3 ∙ then_err _ (rw q at (cost_from r r4 m4 p e4))
 
           module _ (p4 : Bool) (cost : ℕ) (r5 : Reader) (q4 : p4 ≡ bit 3 m) (e4 : (cost_at p4 r4.total r4.action r4.rest.now ≡ Ok (cost, r5.rest.now)) × MovedOn r4 r5) where
-            pub record_moved : MovedOn r r5
-            record_moved = moved_on r r4 r5 m4 e4.1
-
-            pub record_read : whole ≡ apart_at (r.total - length r.rest.now) r.action (record { needs = needs; adds = adds; removes = removes; cost = cost }) r5.rest.now
+            pub record_read : (whole ≡ apart_at (r.total - length r.rest.now) r.action (record { needs = needs; adds = adds; removes = removes; cost = cost }) r5.rest.now) × MovedOn r r5
             unfolding entry
-            record_read = then_ok _ e.0 ∙ then_ok _ k1 ∙ then_ok _ k2 ∙ then_ok _ k3 ∙ then_ok _ (rw q4 at (cost_from r r4 m4 p4 e4.0))
+            record_read = (then_ok _ e.0 ∙ then_ok _ k1 ∙ then_ok _ k2 ∙ then_ok _ k3 ∙ then_ok _ (rw q4 at (cost_from r r4 m4 p4 e4.0)), moved_on r r4 r5 m4 e4.1)
 
 -- A RUN OF RECORDS ----------------------------------------------------------
 

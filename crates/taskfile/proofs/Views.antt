@@ -9,7 +9,7 @@ use Rattle.strips.specs.Sets.{Atoms, nothing, without, clipped, first, inside, W
 use Rattle.strips.specs.Task.{Action, SoundAction, no_action}
 use Rattle.strips.specs.Bits.{bit, bits_of, members, number}
 use Rattle.strips.specs.Parts.{part_of}
-use Rattle.strips.specs.Rows.{row_action, clipped_action}
+use Rattle.strips.specs.Rows.{row_action}
 use Rattle.strips.specs.Soundness.{within_clipped, trimmed_action}
 use Rattle.strips.specs.declared.atoms.AtomSet.{AtomSet}
 use Rattle.strips.specs.declared.part.Part.{Part}
@@ -124,13 +124,6 @@ row_out v few a l r s (Err f) e sound = no_row ∙ sym (none_shown v few a l f e
 -- a set of atoms below 64 is all there
 pub held : (s : AtomSet) (A : Atoms) → members s ≡ A → members s ≡ clipped 64 A
 held s A e = e ∙ sym (clipped_within 64 A (subst (λ X. Within 64 X) e (within_members s)))
-
-pub row_held : (r : Row) (a : Action) → row_action r ≡ a → row_action r ≡ clipped_action 64 a
-row_held r a e = same_action (row_action r) (clipped_action 64 a)
-    (held r.needs a.needs (ap (λ (x : Action). x.needs) e))
-    (held r.adds a.adds (ap (λ (x : Action). x.adds) e))
-    (held r.removes a.removes (ap (λ (x : Action). x.removes) e))
-    (ap (λ (x : Action). x.cost) e)
 
 action_within : (n : ℕ) (b : Bool) (r : Result (Entry × List ℕ) Fault) → let a : Action = cond b (trimmed_action n (action_or_none r)) no_action in Within 64 a.needs × Within 64 a.adds × Within 64 a.removes
 action_within n true (Ok x) = (

@@ -1,11 +1,11 @@
 -- What the writer leaves in the buffer.
-use Rattle.std.proofs.Common.{◌≡◌, ℕ, zero, suc, ◌+◌, ◌-◌, ◌*◌, ◌/◌, ◌%◌, ◌^◌, ◌<◌, ◌≤◌, eqb, List, [], ◌∷◌, ◌++◌, map, length, get_or, take, drop, set, Option, sym, refl, ap, ◌∙◌, subst, ⊎_elim, append_assoc, mod-eq_of_lt, div-one, add-one, arith, length-append, length-drop}
+use Rattle.std.proofs.Common.{◌≡◌, ℕ, zero, suc, ◌+◌, ◌-◌, ◌*◌, ◌/◌, ◌%◌, ◌^◌, ◌<◌, ◌≤◌, eqb, List, [], ◌∷◌, ◌++◌, map, length, get_or, take, drop, set, Option, sym, refl, ap, ◌∙◌, subst, ⊎_elim, append_assoc, mod-eq_of_lt, div-one, add-one, arith, length-append}
 use native.Mathlib.Nat.{pow-succ'}
 use lib.Arith.{mod-mul}
 use borrow.Rule.Slice.PartMut.{put_mid}
 use Rattle.std.proofs.lemmas.List.{take-append-drop, take_at, drop_at, drop-drop, length-take-le, set_split, flat_map_more}
 use Rattle.std.proofs.lemmas.Nat.{div-mul-add, mod-mul-add, mod_below}
-use Rattle.std.proofs.lemmas.Bool.{eq-eqb, ne_eqb, cases_Bool}
+use Rattle.std.proofs.lemmas.Bool.{cases_Bool}
 use Rattle.std.specs.List.{range_with_len, flat_map, fold, sum_by}
 use Rattle.std.proofs.lemmas.List.Concat.{length-flat_map}
 use Rattle.std.proofs.lemmas.List.FromFn.{map-range_with_len_more, take-map-range_with_len}
@@ -66,12 +66,6 @@ written_one : (o : List ℕ) (at b : ℕ) → at < length o → set o at b ≡ w
 unfolding written
 written_one o at b h = let e : suc at ≡ at + 1 = omega arith in set_split o at b h ∙ ap (λ j. take at o ++ (b ∷ drop j o)) e
 
-length_written : (o : List ℕ) (at : ℕ) (x : List ℕ) → at + length x ≤ length o → length (written o at x) ≡ length o
-unfolding written
-length_written o at x h =
-    let l : length (take at o) ≡ at = length-take-le at o (omega arith) in
-    rw (length-append, length-append, l, length-drop) (omega arith)
-
 written_more : (o : List ℕ) (at : ℕ) (x y : List ℕ) → at + length x ≤ length o → written (written o at x) (at + length x) y ≡ written o at (x ++ y)
 unfolding written
 written_more o at x y h =
@@ -98,12 +92,6 @@ then_written o p q at at' x y e a f h = f ∙ ap (λ z. written z at' y) e ∙ a
 
 pub length_unless : (z w v : ℕ) → length (unless z w v) ≤ w
 length_unless z w v = ⊎_elim (λ e. rw e (omega arith)) (λ e. rw e (rw length_high_first (omega arith))) (cases_Bool (eqb v z))
-
-pub unless_at : (z w v : ℕ) → v ≡ z → unless z w v ≡ []
-unless_at z w v e = rw (eq-eqb v z e) refl
-
-pub unless_else : (z w v : ℕ) → (v ≡ z → ⊥) → unless z w v ≡ high_first w v
-unless_else z w v e = rw (ne_eqb v z e) refl
 
 pub length_entry : (r : Entry) → length (entry_bytes r) ≡ 1 + (length (unless 0 8 r.needs) + (length (unless 0 8 r.adds) + (length (unless 0 8 r.removes) + length (unless 1 2 r.cost))))
 unfolding entry_bytes

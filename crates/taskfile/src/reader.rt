@@ -41,7 +41,7 @@ impl<'a> Reader<'a> {
     ghost use Rattle.strips.specs.Task.{SoundAction};
     ghost use Rattle.strips.specs.declared.denial.Denial.TheVariants.{BytesAfterEnd};
     ghost use Rattle.taskfile.specs.Content.{entry_of};
-    ghost use Rattle.taskfile.specs.Reading.{field, fault as fault_of, map_denied, set_denied, set_at, cost_at, entry};
+    ghost use Rattle.taskfile.specs.Reading.{field, fault as fault_of, map_denied, set_at, cost_at, entry};
     ghost use Rattle.taskfile.specs.Reads.{Reads, Takes, ReadsRecords};
 
     // How many bytes are read.
@@ -72,11 +72,14 @@ impl<'a> Reader<'a> {
         Ok(*bytes)
     }
 
-    // The next set: 8 bytes.
-    fn set_field(&mut self) -> Result<AtomSet, Fault>
-        ensures reads { Reads (λ s. number 64 (members s)) self.old self.new result (field 8 (set_denied self.old.atoms) self.old.total self.old.action self.old.rest.now) }
+    /// A set: the next 8 bytes where it is present, and empty where it is absent.
+    pub fn set(&mut self, present: bool) -> Result<AtomSet, Fault>
+        ensures reads { Reads (λ s. number 64 (members s)) self.old self.new result (set_at present self.old.atoms self.old.total self.old.action self.old.rest.now) }
         ensures within { IfOk result (λ s. Within self.old.atoms (members s)) }
     {
+        if !present {
+            return Ok(AtomSet::EMPTY);
+        }
         let place = self.place();
         let set = AtomSet::from_bits(u64::from_be_bytes(self.take()?));
         if !set.is_below(usize::from(self.atoms)) {
@@ -86,18 +89,6 @@ impl<'a> Reader<'a> {
             return Err(self.fault(Denial::FieldAtDefault, place));
         }
         Ok(set)
-    }
-
-    /// A set: the next field where it is present, and empty where it is absent.
-    pub fn set(&mut self, present: bool) -> Result<AtomSet, Fault>
-        ensures reads { Reads (λ s. number 64 (members s)) self.old self.new result (set_at present self.old.atoms self.old.total self.old.action self.old.rest.now) }
-        ensures within { IfOk result (λ s. Within self.old.atoms (members s)) }
-    {
-        if present {
-            self.set_field()
-        } else {
-            Ok(AtomSet::EMPTY)
-        }
     }
 
     // A cost: the next 2 bytes where it is present, and 1 where it is absent.

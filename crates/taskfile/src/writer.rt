@@ -5,9 +5,9 @@ ghost use Rattle.taskfile.specs.Content.{content_of};
 ghost use Rattle.taskfile.specs.Format.{entry_bytes, encode};
 ghost use Rattle.taskfile.specs.Writing.{write_denied, written};
 
-use crate::header::{ACTIONS, ATOMS, VERSION};
+use crate::header::VERSION;
 use crate::put::{flag, put, put_row, row_size, set_field, size};
-use strips::{Denial, Part, Task};
+use strips::{Denial, Part, Task, is_small};
 
 // How many bytes the records have.
 fn records_size<T: Task>(task: &T) -> usize
@@ -68,7 +68,7 @@ pub fn write<T: Task>(task: &T, out: &mut [u8]) -> Result<usize, Denial>
         (λ d. (write_denied (T.Task.meaning task.now) (length out.old) ≡ Some d)
         × (out.new ≡ out.old)) }
 {
-    if task.atoms() > usize::from(ATOMS) || task.actions() > ACTIONS {
+    if !is_small(task) {
         return Err(Denial::TaskOutOfRange);
     }
     let size = file_size(task);

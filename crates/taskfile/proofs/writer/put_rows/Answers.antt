@@ -1,4 +1,4 @@
-use Rattle.std.proofs.Common.{◌≡◌, ◌+◌, ◌≤◌, length, ap, ◌∙◌, arith}
+use Rattle.std.proofs.Common.{◌+◌, ◌≤◌, length, ap, ◌∙◌, arith}
 use Rattle.strips.specs.Rows.{row_action}
 use Rattle.taskfile.specs.Content.{entry_of}
 use Rattle.taskfile.specs.Format.{entry_bytes}
@@ -22,9 +22,3 @@ loop-action-preserved g c =
           ∙ ap (written c.args.out.now c.args.at) (row_front t c.loop-action.action c.row.result c.row.ensures),
       omega (arith, row_length t c.loop-action.action c.row.result c.row.ensures, c.loop-action.invariant.1, c.put_row-place.ensures.after),
     )
-
-pub returns : goal.returns
-returns g c =
-    let t = g.T.Task.meaning c.args.task.now in
-    let e : c.loop-action.action ≡ t.actions = omega arith in
-    c.loop-action.invariant.0 ∙ ap (λ i. written c.args.out.now c.args.at (front t i)) e

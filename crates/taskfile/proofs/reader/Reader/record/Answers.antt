@@ -2,7 +2,7 @@ use Rattle.std.proofs.Common.{sym, ap, Err, ◌∙◌, arith}
 use Rattle.std.proofs.lemmas.Bool.{cond-true, cond-false, not-true, not-false}
 use Rattle.strips.proofs.Rowed.{apart_from}
 use Rattle.taskfile.proofs.Contents.{within_members, meets_number}
-use Rattle.taskfile.proofs.Steps.{reads_err, map_err, needs_err, adds_err, removes_err, cost_err, record_read, record_moved, fault_same, moved_on, within_from}
+use Rattle.taskfile.proofs.Steps.{reads_err, map_err, needs_err, adds_err, removes_err, cost_err, record_read, fault_same, moved_on, within_from}
 use Rattle.taskfile.proofs.reader.Reader.record.Goals as goal
 
 pub returns-in_err-map-clause-reads : goal.returns-in_err-map-clause-reads
@@ -27,20 +27,17 @@ returns-in_err-cost-clause-reads c = reads_err _ c.args.self.now c.cost.new.self
 
 pub returns-then-meets-clause-reads : goal.returns-then-meets-clause-reads
 returns-then-meets-clause-reads c =
-    record_read _ _ _ c.in_ok-map.ensures _ _ _ c.brings.ensures c.in_ok-needs.ensures.reads _ _ _ c.brings-2.ensures c.in_ok-adds.ensures.reads
-    _ _ _ c.brings-3.ensures c.in_ok-removes.ensures.reads _ _ _ c.brings-4.ensures c.in_ok-cost.ensures
+    let all = record_read _ _ _ c.in_ok-map.ensures _ _ _ c.brings.ensures c.in_ok-needs.ensures.reads _ _ _ c.brings-2.ensures c.in_ok-adds.ensures.reads
+    _ _ _ c.brings-3.ensures c.in_ok-removes.ensures.reads _ _ _ c.brings-4.ensures c.in_ok-cost.ensures in
+    all.0
     ∙ cond-false _ _ _ (not-true _ (meets_number _ _ (within_members c.in_ok-adds.adds) (within_members c.in_ok-removes.removes) ∙ sym c.if-meets.ensures))
-    ∙ ap Err (fault_same _ _ (record_moved _ _ _ c.in_ok-map.ensures _ _ _ c.brings.ensures c.in_ok-needs.ensures.reads _ _ _ c.brings-2.ensures c.in_ok-adds.ensures.reads
-    _ _ _ c.brings-3.ensures c.in_ok-removes.ensures.reads _ _ _ c.brings-4.ensures c.in_ok-cost.ensures) _ _ _ c.place-place.ensures c.fault.ensures)
+    ∙ ap Err (fault_same _ _ all.1 _ _ _ c.place-place.ensures c.fault.ensures)
 
 pub returns-clause-reads : goal.returns-clause-reads
-returns-clause-reads c = (
-  record_read _ _ _ c.in_ok-map.ensures _ _ _ c.brings.ensures c.in_ok-needs.ensures.reads _ _ _ c.brings-2.ensures c.in_ok-adds.ensures.reads
-      _ _ _ c.brings-3.ensures c.in_ok-removes.ensures.reads _ _ _ c.brings-4.ensures c.in_ok-cost.ensures
-      ∙ cond-true _ _ _ (not-false _ (meets_number _ _ (within_members c.in_ok-adds.adds) (within_members c.in_ok-removes.removes) ∙ sym c.if-meets.ensures)),
-  record_moved _ _ _ c.in_ok-map.ensures _ _ _ c.brings.ensures c.in_ok-needs.ensures.reads _ _ _ c.brings-2.ensures c.in_ok-adds.ensures.reads
-      _ _ _ c.brings-3.ensures c.in_ok-removes.ensures.reads _ _ _ c.brings-4.ensures c.in_ok-cost.ensures,
-)
+returns-clause-reads c =
+    let all = record_read _ _ _ c.in_ok-map.ensures _ _ _ c.brings.ensures c.in_ok-needs.ensures.reads _ _ _ c.brings-2.ensures c.in_ok-adds.ensures.reads
+    _ _ _ c.brings-3.ensures c.in_ok-removes.ensures.reads _ _ _ c.brings-4.ensures c.in_ok-cost.ensures in
+    (all.0 ∙ cond-true _ _ _ (not-false _ (meets_number _ _ (within_members c.in_ok-adds.adds) (within_members c.in_ok-removes.removes) ∙ sym c.if-meets.ensures)), all.1)
 
 pub returns-clause-sound : goal.returns-clause-sound
 returns-clause-sound c =
