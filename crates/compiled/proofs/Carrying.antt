@@ -1,16 +1,16 @@
 -- The compiled task's actions, one task action after another.
-use Rattle.std.proofs.Common.{◌≡◌, ℕ, zero, suc, ◌+◌, ◌-◌, ◌<◌, ◌≤◌, Bool, true, false, cond, not, ◌&&◌, ◌||◌, eqb, ltb, Some, List, [], ◌∷◌, ◌++◌, map, length, get_or, sym, refl, ap, ◌∙◌, subst, ⊎_elim, true≢false, add-one, arith, length-append, get_or-append-add, eq-eqb, eqb-true, ltb-true, lt-ltb}
+use Rattle.std.proofs.Common.{◌≡◌, ℕ, zero, suc, ◌+◌, ◌-◌, ◌<◌, ◌≤◌, Bool, true, false, cond, not, ◌&&◌, ◌||◌, ltb, Some, List, [], ◌∷◌, ◌++◌, map, length, get_or, sym, refl, ap, ◌∙◌, subst, ⊎_elim, true≢false, add-one, arith, length-append, get_or-append-add, ltb-true, lt-ltb}
 use mathlib.Core.List.{map-append}
 use lib.ListN.{length-map, get_or-append}
 use Rattle.std.proofs.lemmas.List.{get_or-map}
-use Rattle.std.proofs.lemmas.Bool.{cases_lt, cases_Bool, or_cases, or_left, and_parts}
+use Rattle.std.proofs.lemmas.Bool.{cases_lt, and_parts}
 use Rattle.strips.specs.Sets.{Atoms, nothing, plus, joined, without, first, clipped, meets, Within}
 use Rattle.strips.specs.Task.{Action, Task, Sound, no_action}
 use Rattle.strips.specs.Bits.{members}
 use Rattle.strips.specs.Rows.{row_action, clipped_action}
 use Rattle.strips.specs.declared.row.Row.{Row}
 use Rattle.strips.proofs.Members.{clipped_within}
-use Rattle.strips.proofs.Binary.{meets_from, meets_none}
+use Rattle.strips.proofs.Binary.{meets_none}
 use Rattle.heuristics.specs.Smalls.{sized, smalls}
 use Rattle.bounds.specs.Orders.{size_of}
 use Rattle.bounds.specs.declared.order.Order.{Order}
@@ -18,22 +18,10 @@ use Rattle.bounds.specs.declared.order.Order.TheVariants.{One, Two}
 use Rattle.heuristics.specs.Compiled.{kept, flat, carrying, cargo, carriers, all_carriers}
 use Rattle.compiled.specs.Decoded.{rising, extras, cargo_set}
 use Rattle.compiled.proofs.Numbering.{put_one}
+use Rattle.compiled.proofs.Scoped.{one, meets_one}
 use Rattle.compiled.proofs.Rising.{AtomAt, rising_none, rising_within}
 
 -- WHAT AN ACTION TAKES ALONG ------------------------------------------------
-
-abbrev single : ℕ → Atoms
-single p = plus p nothing
-
-meets_single : (n k : ℕ) (A : Atoms) → k < n → meets n (single k) A ≡ A k
-meets_single n k A h =
-    ⊎_elim
-    (λ e. meets_from n (single k) A k h (or_left (eqb k k) false (eq-eqb k k refl)) e ∙ sym e)
-    (λ e. meets_none n (single k) A (λ p l a b. true≢false (sym b ∙ (ap A (only p a) ∙ e))) ∙ sym e)
-    (cases_Bool (A k))
-  where
-    only : (p : ℕ) → single k p ≡ true → p ≡ k
-    only p a = ⊎_elim (λ u. eqb-true p k u) (λ u. absurd (true≢false (sym u))) (or_cases (eqb p k) false a)
 
 meets_nothing : (n : ℕ) (A : Atoms) → meets n nothing A ≡ false
 meets_nothing n A = meets_none n nothing A (λ p l a b. true≢false (sym a))
@@ -45,8 +33,8 @@ apart n a f = not (meets n f a.adds) && not (meets n f a.removes)
 abbrev touched : Action → Atoms
 touched a = joined a.adds a.removes
 
-apart_single : (n k : ℕ) (a : Action) → k < n → apart n a (single k) ≡ not (touched a k)
-apart_single n k a h = rw (meets_single n k a.adds h, meets_single n k a.removes h) (neither (a.adds k) (a.removes k))
+apart_single : (n k : ℕ) (a : Action) → k < n → apart n a (one k) ≡ not (touched a k)
+apart_single n k a h = rw (meets_one n k a.adds h, meets_one n k a.removes h) (neither (a.adds k) (a.removes k))
   where
     neither : (x y : Bool) → (not x && not y) ≡ not (x || y)
     neither true y = refl
@@ -64,26 +52,26 @@ kept_append {A} p (x ∷ xs) ys = go (p x) (kept_append p xs ys)
     go true h = ap (λ zs. x ∷ zs) h
     go false h = h
 
-kept_singles : (n k : ℕ) (a : Action) → k ≤ n → kept (apart n a) (sized k 1) ≡ map single (rising k (extras Two n (touched a)))
+kept_singles : (n k : ℕ) (a : Action) → k ≤ n → kept (apart n a) (sized k 1) ≡ map one (rising k (extras Two n (touched a)))
 unfolding kept sized rising
 kept_singles n zero a h = refl
 kept_singles n (suc k) a h =
-    kept_append (apart n a) (sized k 1) (single k ∷ [])
-    ∙ (ap (λ zs. zs ++ kept (apart n a) (single k ∷ [])) (kept_singles n k a (omega arith))
-    ∙ (ap (λ b. map single (rising k E) ++ cond b (single k ∷ []) []) (apart_single n k a h ∙ ap (λ b. b && not (touched a k)) (sym (lt-ltb k n h)))
-    ∙ (last (E k) ∙ sym (map-append single (rising k E) (cond (E k) (k ∷ []) [])))))
+    kept_append (apart n a) (sized k 1) (one k ∷ [])
+    ∙ (ap (λ zs. zs ++ kept (apart n a) (one k ∷ [])) (kept_singles n k a (omega arith))
+    ∙ (ap (λ b. map one (rising k E) ++ cond b (one k ∷ []) []) (apart_single n k a h ∙ ap (λ b. b && not (touched a k)) (sym (lt-ltb k n h)))
+    ∙ (last (E k) ∙ sym (map-append one (rising k E) (cond (E k) (k ∷ []) [])))))
   where
     E : Atoms
     E = extras Two n (touched a)
 
-    last : (b : Bool) → map single (rising k E) ++ cond b (single k ∷ []) [] ≡ map single (rising k E) ++ map single (cond b (k ∷ []) [])
+    last : (b : Bool) → map one (rising k E) ++ cond b (one k ∷ []) [] ≡ map one (rising k E) ++ map one (cond b (k ∷ []) [])
     last true = refl
     last false = refl
 
-cargo_list : (o : Order) (n : ℕ) (a : Action) → n ≤ 64 → cargo n (size_of o) a ≡ nothing ∷ map single (rising 64 (extras o n (touched a)))
+cargo_list : (o : Order) (n : ℕ) (a : Action) → n ≤ 64 → cargo n (size_of o) a ≡ nothing ∷ map one (rising 64 (extras o n (touched a)))
 unfolding kept smalls
-cargo_list One n a h = rw (apart_nothing n a) (ap (λ zs. nothing ∷ map single zs) (sym (rising_none 64 nothing (λ q l. refl))))
-cargo_list Two n a h = rw (apart_nothing n a) (ap (λ zs. nothing ∷ zs) (kept_singles n n a (omega arith) ∙ ap (map single) (sym (rising_within n 64 (extras Two n (touched a)) (λ p e. ltb-true p n (and_parts (ltb p n) (not (touched a p)) e).0) h))))
+cargo_list One n a h = rw (apart_nothing n a) (ap (λ zs. nothing ∷ map one zs) (sym (rising_none 64 nothing (λ q l. refl))))
+cargo_list Two n a h = rw (apart_nothing n a) (ap (λ zs. nothing ∷ zs) (kept_singles n n a (omega arith) ∙ ap (map one) (sym (rising_within n 64 (extras Two n (touched a)) (λ p e. ltb-true p n (and_parts (ltb p n) (not (touched a p)) e).0) h))))
 
 -- what the action a of a task can take along
 abbrev pub extras_of : Order → Task → ℕ → List ℕ
@@ -92,7 +80,7 @@ extras_of o t a = rising 64 (extras o t.atoms (joined (t.action a).adds (t.actio
 carriers_length : (o : Order) (t : Task) → t.atoms ≤ 64 → (a : ℕ) → length (carriers (size_of o) t a) ≡ suc (length (extras_of o t a))
 carriers_length o t h a =
     length-map (cargo t.atoms (size_of o) (t.action a)) (carrying t.atoms (size_of o) (t.action a))
-    ∙ (ap length (cargo_list o t.atoms (t.action a) h) ∙ ap suc (length-map (extras_of o t a) single))
+    ∙ (ap length (cargo_list o t.atoms (t.action a) h) ∙ ap suc (length-map (extras_of o t a) one))
 
 carriers_at : (o : Order) (t : Task) → t.atoms ≤ 64 → (a j : ℕ) → j ≤ length (extras_of o t a) →
     get_or (carriers (size_of o) t a) j no_action ≡ carrying t.atoms (size_of o) (t.action a) (cargo_set (extras_of o t a) j)
@@ -104,9 +92,9 @@ carriers_at o t k a j h = ap (λ zs. get_or (map C zs) j no_action) (cargo_list 
     C : Atoms → Action
     C = carrying t.atoms (size_of o) (t.action a)
 
-    go : (j : ℕ) → j ≤ length xs → get_or (map C (nothing ∷ map single xs)) j no_action ≡ C (cargo_set xs j)
+    go : (j : ℕ) → j ≤ length xs → get_or (map C (nothing ∷ map one xs)) j no_action ≡ C (cargo_set xs j)
     go zero h = refl
-    go (suc i) h = get_or-map C (map single xs) i nothing no_action (rw length-map (omega arith)) ∙ ap C (get_or-map single xs i 0 nothing (omega arith))
+    go (suc i) h = get_or-map C (map one xs) i nothing no_action (rw length-map (omega arith)) ∙ ap C (get_or-map one xs i 0 nothing (omega arith))
 
 -- ONE ACTION AFTER ANOTHER --------------------------------------------------
 

@@ -1,7 +1,7 @@
 pub mod Numbering
 pub mod Rising
 pub mod Carrying
-pub mod Nothing
+pub mod Removing
 pub mod Scoped
 pub mod Compiling
 pub mod Few

@@ -1,5 +1,5 @@
 -- The sets of one or two atoms by their numbers.
-use Rattle.std.proofs.Common.{◌≡◌, ℕ, zero, suc, ◌+◌, ◌-◌, ◌*◌, ◌/◌, ◌<◌, ◌≤◌, eqb, length, sym, refl, ap, ◌∙◌, ⊎_elim, true≢false, suc-mul, mul-le-mul, mul-suc, arith, eqb-true}
+use Rattle.std.proofs.Common.{◌≡◌, ℕ, zero, suc, ◌+◌, ◌-◌, ◌*◌, ◌/◌, ◌<◌, ◌≤◌, eqb, length, sym, refl, ap, ◌∙◌, ⊎_elim, suc-mul, mul-le-mul, mul-suc, arith, eqb-true}
 use Rattle.std.proofs.lemmas.Bool.{cases_lt, or_cases}
 use Rattle.strips.specs.Sets.{Atoms, nothing, plus, clipped, Within}
 use Rattle.strips.proofs.Members.{clipped_within}
@@ -8,6 +8,7 @@ use Rattle.bounds.specs.Orders.{size_of}
 use Rattle.bounds.specs.declared.order.Order.{Order}
 use Rattle.bounds.specs.declared.order.Order.TheVariants.{One, Two}
 use Rattle.heuristics.proofs.Forms.{closed}
+use Rattle.compiled.specs.Soundness.{within_none}
 
 -- how many sets of two atoms there are below j
 unfoldable pub tri : ℕ → ℕ
@@ -64,9 +65,6 @@ within_plus n p A h w q e = ⊎_elim (λ u. let v = eqb-true q p u in omega arit
 
 put : (p : ℕ) (A B : Atoms) → p < 64 → Within 64 B → A ≡ B → clipped 64 (plus p A) ≡ plus p B
 put p A B h w e = ap (λ C. clipped 64 (plus p C)) e ∙ clipped_within 64 (plus p B) (within_plus 64 p B h w)
-
-within_none : (n : ℕ) → Within n nothing
-within_none n p e = absurd (true≢false (sym e))
 
 pub put_one : (p : ℕ) (A S : Atoms) → p < 64 → A ≡ nothing → S ≡ clipped 64 (plus p A) → S ≡ plus p nothing
 put_one p A S h e s = s ∙ put p A nothing h (within_none 64) e

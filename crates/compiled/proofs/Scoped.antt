@@ -55,7 +55,7 @@ number_of Two n i h = ⊎_elim (λ l. an_atom l) (λ (l : n ≤ i). pairs l) (ca
 
 -- TESTS ---------------------------------------------------------------------
 
-abbrev one : ℕ → Atoms
+abbrev pub one : ℕ → Atoms
 one i = plus i nothing
 
 one_has : (i : ℕ) → one i i ≡ true
@@ -98,7 +98,7 @@ meets_plus n j A B h = same_test (meets n (plus j A) B) (B j || meets n A B) the
         (λ u. let r = meets_some n A B u in meets_from n (plus j A) B r.0 r.1 (or_right (eqb r.0 j) (A r.0) r.2) r.3)
         (or_cases (B j) (meets n A B) e)
 
-meets_one : (n i : ℕ) (B : Atoms) → i < n → meets n (one i) B ≡ B i
+pub meets_one : (n i : ℕ) (B : Atoms) → i < n → meets n (one i) B ≡ B i
 meets_one n i B h = meets_plus n i nothing B h ∙ (ap (λ b. B i || b) (meets_none n nothing B (λ p l a b. true≢false (sym a))) ∙ or-false (B i))
 
 -- WHAT A SCOPE TAKES IN -----------------------------------------------------

@@ -64,17 +64,17 @@ carriers_few o t h a = let l = length-map (cargo t.atoms (size_of o) (t.action a
     go One h l = let k = kept_few free (nothing ∷ []) in omega arith
     go Two h l = let k = kept_few free (nothing ∷ smalls t.atoms 1) in let c = (closed t.atoms).ones in omega arith
 
-none : (n : ℕ) → Within n nothing
-none n p e = absurd (true≢false (sym e))
+pub within_none : (n : ℕ) → Within n nothing
+within_none n p e = absurd (true≢false (sym e))
 
 no_action_sound : (n : ℕ) → SoundAction n no_action
-no_action_sound n = record { needs_in = none n; adds_in = none n; removes_in = none n; apart = λ p e f. true≢false (sym e); cost_in = omega arith }
+no_action_sound n = record { needs_in = within_none n; adds_in = within_none n; removes_in = within_none n; apart = λ p e f. true≢false (sym e); cost_in = omega arith }
 
 carrying_sound : (n m : ℕ) (a : Action) (f : Atoms) → a.cost ≤ 65535 → SoundAction (length (smalls n m)) (carrying n m a f)
 carrying_sound n m a f c = record {
   needs_in = within_clipped (length (smalls n m)) _;
   adds_in = within_clipped (length (smalls n m)) _;
-  removes_in = none (length (smalls n m));
+  removes_in = within_none (length (smalls n m));
   apart = λ p e g. true≢false (sym g);
   cost_in = c;
 }

@@ -12,7 +12,7 @@ use crate::subsets::Scope;
 use strips::{Part, Task};
 
 impl Carrier {
-    /// It needs every set inside what the action needs and what it takes along.
+    /// What it needs: every set inside what the action needs and what is taken along.
     fn needs(self) -> Scope
         ensures core { members result.core ≡ joined (members self.row.needs) (members self.cargo) }
         ensures rim { members result.rim ≡ nothing }
@@ -20,7 +20,7 @@ impl Carrier {
         Scope::inside(self.row.needs.joined(self.cargo))
     }
 
-    /// It adds every set that has an atom which the action adds, and else only what the action adds or it takes along.
+    /// What it adds: every set inside what the action adds and what is taken along that has an atom which the action adds.
     fn adds(self) -> Scope
         ensures core { members result.core ≡ members self.row.adds }
         ensures rim { members result.rim ≡ members self.cargo }

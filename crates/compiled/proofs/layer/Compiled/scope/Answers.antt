@@ -4,7 +4,7 @@ use Rattle.strips.specs.Bits.{members}
 use Rattle.bounds.specs.Orders.{size_of}
 use Rattle.heuristics.specs.Compiled.{compiled}
 use Rattle.compiled.specs.Decoded.{ScopeIs}
-use Rattle.compiled.proofs.Nothing.{removes_none}
+use Rattle.compiled.proofs.Removing.{removes_none}
 use Rattle.compiled.proofs.Compiling.{asked_scoped, needs_scoped}
 use Rattle.compiled.proofs.layer.Compiled.scope.Goals as goal
 

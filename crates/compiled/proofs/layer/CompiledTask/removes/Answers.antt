@@ -1,5 +1,5 @@
 use Rattle.std.proofs.Common.{sym, ap}
-use Rattle.compiled.proofs.Nothing.{removes_none}
+use Rattle.compiled.proofs.Removing.{removes_none}
 use Rattle.compiled.proofs.layer.CompiledTask.removes.Goals as goal
 
 pub returns : goal.returns
