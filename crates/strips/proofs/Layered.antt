@@ -1,5 +1,5 @@
 -- What the making of a layer shows.
-use Rattle.std.proofs.Common.{◌≡◌, ℕ, ◌<◌, ◌≤◌, Bool, true, false, cond, leb, ◌⊎◌, get_or, replicate, None, sym, ap, ◌∙◌, subst, inl, inr, ⊎_elim, true≢false, arith, ltb-true, lt-ltb, le-leb, leb-true}
+use Rattle.std.proofs.Common.{◌≡◌, ℕ, ◌<◌, ◌≤◌, Bool, true, false, cond, leb, ◌⊎◌, get_or, replicate, sym, ◌∙◌, subst, inl, inr, ⊎_elim, true≢false, arith, ltb-true, lt-ltb, le-leb, leb-true}
 use lib.ListN.{get_or-replicate, length-replicate}
 use Rattle.std.proofs.lemmas.List.{get_or_past}
 use Rattle.std.proofs.lemmas.Bool.{and_from, and_parts, cases_lt, cases_Bool}
@@ -8,7 +8,7 @@ use Rattle.strips.specs.Task.{Action, Task, small}
 use Rattle.strips.specs.Rows.{row_action, clipped_action}
 use Rattle.strips.specs.Closed.{closed_of}
 use Rattle.strips.specs.declared.row.Row.{Row}
-use Rattle.strips.specs.Layers.{with_errand, errand_task, errand_denied, idle}
+use Rattle.strips.specs.Layers.{idle}
 use Rattle.strips.proofs.Binary.{inside_each, inside_from}
 use Rattle.strips.proofs.Members.{clipped_within, bits_none}
 
@@ -21,17 +21,6 @@ small_parts t e = let h = and_parts (leb t.atoms 64) (leb t.actions 256) e in (l
 -- what the test for atoms below n says
 pub below_within : (n : ℕ) (A : Atoms) → Within 64 A → true ≡ inside 64 A (first n) → Within n A
 below_within n A w e p h = ltb-true p n (inside_each 64 A (first n) (sym e) p (w p h) h)
-
-pub errand_made : (t : Task) (s g : Atoms) (n : ℕ) → n ≡ t.atoms → n ≤ 64 → t.actions ≤ 256 → Within 64 s → Within 64 g →
-    true ≡ inside 64 s (first n) → true ≡ inside 64 g (first n) →
-    (errand_denied t s g ≡ None) × (errand_task t s g ≡ with_errand t s g)
-errand_made t s g n e a b ws wg is' ig' =
-    let is : true ≡ inside 64 s (first t.atoms) = is' ∙ ap (λ m. inside 64 s (first m)) e in
-    let ig : true ≡ inside 64 g (first t.atoms) = ig' ∙ ap (λ m. inside 64 g (first m)) e in (
-      rw (is_small t (omega arith) b, and_from (inside 64 s (first t.atoms)) (inside 64 g (first t.atoms)) (sym is) (sym ig)),
-      ap (λ x. with_errand t x (clipped t.atoms g)) (clipped_within t.atoms s (below_within t.atoms s ws is))
-          ∙ ap (λ x. with_errand t s x) (clipped_within t.atoms g (below_within t.atoms g wg ig)),
-    )
 
 -- the marks of no closed action
 pub none_closed : closed_of (record { marks = replicate 256 false }) ≡ (λ _. false)

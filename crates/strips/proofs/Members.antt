@@ -1,13 +1,13 @@
 -- What the operations on numbers do to the sets of their bits.
-use Rattle.std.proofs.Common.{◌≡◌, ℕ, ◌+◌, ◌-◌, ◌*◌, ◌/◌, ◌%◌, ◌^◌, ◌<◌, ◌≤◌, Bool, true, false, not, ◌&&◌, ◌||◌, eqb, ltb, ◌⊎◌, Some, sym, refl, ap, ◌∙◌, subst, inl, inr, ⊎_elim, true≢false, zero-mul, add-one, arith, ltb-true, le-ltb, lt-ltb, eq-eqb, ne_eqb, eqb-true}
+use Rattle.std.proofs.Common.{◌≡◌, ℕ, ◌+◌, ◌-◌, ◌*◌, ◌/◌, ◌%◌, ◌^◌, ◌<◌, ◌≤◌, ◌≢◌, Bool, true, false, not, ◌&&◌, ◌||◌, eqb, ltb, ◌⊎◌, Some, sym, refl, ap, ◌∙◌, subst, inl, inr, ⊎_elim, true≢false, zero-mul, arith, ltb-true, le-ltb, lt-ltb, eq-eqb, ne_eqb, eqb-true}
 use lib.Count.{count_trailing_zeros}
 use lib.Bits.{bit_and, bit_or, bit_xor}
-use Rattle.std.proofs.lemmas.Bool.{cases_lt, cases_Bool, and_parts, and_from, not_from_true, not_from_false}
+use Rattle.std.proofs.lemmas.Bool.{cases_lt, cases_eq, cases_Bool, and_parts, and_from, not_from_true, not_from_false}
 use Rattle.std.proofs.lemmas.Nat.{and_le_l, and_le_r, shr_le, shr-shr, pow_pos, one_shl, mod_below, div-add-mod'}
 use Rattle.strips.specs.Sets.{Atoms, joined, common, without, clipped, first, plus, less, Within, inside, meets}
 use Rattle.strips.specs.Bits.{bit, bits_of, number}
 use Rattle.strips.specs.Parts.{FirstFrom, Parted}
-use Rattle.strips.proofs.Binary.{lowest_bit, cleared, number_below, number_bit, number_all, or_above, bit-bit_and, bit-bit_or, bit_cut, bit_pow, same_number, high_none, none_bit, number_of_bits, inside_each, inside_from, meets_from, meets_none, same_test}
+use Rattle.strips.proofs.Binary.{lowest_bit, cleared, number_bit, number_all, bit-bit_and, bit-bit_or, bit_cut, bit_pow, same_number, high_none, none_bit, number_of_bits, inside_each, inside_from, meets_from, meets_none, same_test}
 
 none : (b : Bool) → (b && false) ≡ false
 none true = refl
@@ -75,22 +75,22 @@ bits_with_none x a h = same_atoms (bits_of x) (clipped 64 (plus a (bits_of x))) 
     go p (inl k) = rw (lt-ltb p 64 k, ne_eqb p a (λ e. omega arith))
     go p (inr k) = rw (le-ltb p 64 k)
 
--- the number of one atom more
-pub number_put : (n x : ℕ) (A : Atoms) → n < 64 → x ≡ number n A → true ≡ A n → bit_or x (1 * 2 ^ n % 18446744073709551616) ≡ number (n + 1) A
-unfolding number
-number_put n x A h e a =
-    ap (bit_or x) (one_shl n 64 h) ∙ (ap (λ z. bit_or z (2 ^ n)) e ∙ (or_above n (number n A) (number_below n A) ∙ rw (add-one n, ← a)))
-
-pub number_skip : (n x : ℕ) (A : Atoms) → x ≡ number n A → false ≡ A n → x ≡ number (n + 1) A
-unfolding number
-number_skip n x A e a = e ∙ rw (add-one n, ← a) (omega arith)
-
-pub bits_of_number : (A : Atoms) → bits_of (number 64 A) ≡ clipped 64 A
-bits_of_number A = same_atoms (bits_of (number 64 A)) (clipped 64 A) (λ p. ap (λ b. ltb p 64 && b) (number_bit 64 A p) ∙ twice (ltb p 64) (A p))
+-- the atoms of A up to n, from those below n, where n is in A and where it is not
+pub clipped_put : (n : ℕ) (A B : Atoms) → n < 64 → B ≡ clipped n A → true ≡ A n → clipped 64 (plus n B) ≡ clipped (n + 1) A
+clipped_put n A B h e a = ap (λ X. clipped 64 (plus n X)) e ∙ same_atoms (clipped 64 (plus n (clipped n A))) (clipped (n + 1) A) (λ p. go p (cases_eq p n) (cases_lt p n))
   where
-    twice : (b u : Bool) → (b && (b && u)) ≡ (b && u)
-    twice true u = refl
-    twice false u = refl
+    go : (p : ℕ) → (p ≡ n) ⊎ (p ≢ n) → (p < n) ⊎ (n ≤ p) → (ltb p 64 && (eqb p n || (ltb p n && A p))) ≡ (ltb p (n + 1) && A p)
+    go p (inl q) l = rw (q, eq-eqb n n refl, lt-ltb n 64 h, lt-ltb n (n + 1) (omega arith)) a
+    go p (inr q) (inl l) = rw (ne_eqb p n q, lt-ltb p 64 (omega arith), lt-ltb p n l, lt-ltb p (n + 1) (omega arith))
+    go p (inr q) (inr l) = rw (ne_eqb p n q, le-ltb p n l, le-ltb p (n + 1) (let ne : (p ≡ n → ⊥) = q in omega arith)) (none (ltb p 64))
+
+pub clipped_skip : (n : ℕ) (A B : Atoms) → B ≡ clipped n A → false ≡ A n → B ≡ clipped (n + 1) A
+clipped_skip n A B e a = e ∙ same_atoms (clipped n A) (clipped (n + 1) A) (λ p. go p (cases_eq p n) (cases_lt p n))
+  where
+    go : (p : ℕ) → (p ≡ n) ⊎ (p ≢ n) → (p < n) ⊎ (n ≤ p) → (ltb p n && A p) ≡ (ltb p (n + 1) && A p)
+    go p (inl q) l = rw q (rw (le-ltb n n (omega arith), lt-ltb n (n + 1) (omega arith)) a)
+    go p (inr q) (inl l) = rw (lt-ltb p n l, lt-ltb p (n + 1) (omega arith))
+    go p (inr q) (inr l) = rw (le-ltb p n l, le-ltb p (n + 1) (let ne : (p ≡ n → ⊥) = q in omega arith))
 
 -- the number of all atoms below n has just their bits
 pub bits_first : (n : ℕ) → bits_of (2 ^ n - 1) ≡ clipped 64 (first n)

@@ -1,6 +1,8 @@
 -- Tables of rows, as they are made and after one row is set.
-use Rattle.std.proofs.Common.{◌≡◌, ℕ, ◌+◌, ◌<◌, ◌≤◌, Bool, true, false, cond, ltb, ◌⊎◌, List, length, get_or, set, replicate, sym, refl, ap, ◌∙◌, subst, inl, inr, ⊎_elim, true≢false, arith, get_or-set_other, get_or-set_same, ltb-false, ltb-true}
+use Rattle.std.proofs.Common.{◌≡◌, ℕ, zero, suc, ◌+◌, ◌<◌, ◌≤◌, Bool, true, false, cond, ltb, ◌⊎◌, List, length, get_or, set, replicate, sym, refl, ap, ◌∙◌, subst, inl, inr, ⊎_elim, true≢false, arith, get_or-set_other, get_or-set_same, ltb-false, ltb-true}
 use lib.ListN.{get_or-replicate, length-replicate}
+use denote.Param.Members.{Mut, Called}
+use Rattle.std.specs.Array.{IsFromFnResultFrom}
 use Rattle.std.proofs.lemmas.Bool.{cases_lt, cases_eq, cases_Bool}
 use Rattle.std.proofs.lemmas.List.{get_or_past}
 use Rattle.strips.specs.Sets.{Atoms, nothing, clipped, meets, Within, Apart}
@@ -78,25 +80,21 @@ row_whole t s l a r e = e ∙ clipped_small t.atoms (t.action a) l (s.each a)
 pub set_whole : (n : ℕ) (A : Atoms) → n ≤ 64 → Within n A → (x : AtomSet) → members x ≡ clipped 64 A → members x ≡ A
 set_whole n A l h x e = e ∙ clipped_within 64 A (λ p f. let k = h p f in omega arith)
 
--- one row more
-pub copied_more : (t : Task) (rows : List Row) (i : ℕ) (r : Row) → i < length rows → row_action r ≡ t.action i →
-    ((a : ℕ) → a < i → row_action (get_or rows a no_row) ≡ t.action a) → ((a : ℕ) → i ≤ a → get_or rows a no_row ≡ no_row) →
-    ((a : ℕ) → a < i + 1 → row_action (get_or (set rows i r) a no_row) ≡ t.action a) × ((a : ℕ) → i + 1 ≤ a → get_or (set rows i r) a no_row ≡ no_row)
-copied_more t rows i r l e f g = (
-  λ a h. ⊎_elim
-      (λ q. ap row_action (ap (λ n. get_or (set rows i r) n no_row) q ∙ get_or-set_same rows i r no_row l) ∙ (e ∙ ap t.action (sym q)))
-      (λ q. ap row_action (get_or-set_other rows i a r no_row q) ∙ f a (omega arith))
-      (cases_eq a i),
-  λ a h. get_or-set_other rows i a r no_row (λ q. omega arith) ∙ g a (omega arith),
-)
+-- rows that one closure makes, which each call leaves as it was: what holds of each call's row holds of each row
+pub made_each : {F : Type 0} (g : Mut F (ℕ × Unit {0}) Row) (P : ℕ → Row → Type 0) (f : F) (rows : List Row) → ((a : ℕ) (r : Row) (q : F) → Called g f (a, tt) r q → (q ≡ f) × P a r) →
+    (i n : ℕ) → IsFromFnResultFrom g f rows i n → (a : ℕ) → i ≤ a → a < i + n → P a (get_or rows a no_row)
+made_each g P f rows h i zero e a l k = let z : ⊥ = omega arith in absurd z
+made_each g P f rows h i (suc n) (q, r, at, call, rest) a l k =
+    ⊎_elim
+    (λ e. subst (λ b. P b (get_or rows b no_row)) (sym e) (subst (P i) (sym (at.1 no_row)) (h i r q call).1))
+    (λ e. made_each g P f rows h (i + 1) n (subst (λ z. IsFromFnResultFrom g z rows (i + 1) n) (h i r q call).0 rest) a (omega arith) (omega arith))
+    (cases_eq a i)
 
-pub empty_rows : (a : ℕ) → get_or (replicate 256 no_row) a no_row ≡ no_row
-empty_rows a = ⊎_elim (λ l. get_or-replicate 256 a no_row no_row l) (λ l. get_or_past (replicate 256 no_row) a no_row (let e = length-replicate 256 no_row in omega arith)) (cases_lt a 256)
-
-pub copied_all : (t : Task) → Sound t → (rows : List Row) (i : ℕ) → t.actions ≤ i →
-    ((a : ℕ) → a < i → row_action (get_or rows a no_row) ≡ t.action a) → ((a : ℕ) → i ≤ a → get_or rows a no_row ≡ no_row) →
-    (a : ℕ) → row_action (get_or rows a no_row) ≡ t.action a
-copied_all t s rows i l f g a = ⊎_elim (f a) (λ h. ap row_action (g a h) ∙ (no_row_action ∙ sym (s.past a (omega arith)))) (cases_lt a i)
+-- 256 rows that stand for a small task's actions, and what is read past them
+pub copied_all : (t : Task) → Sound t → t.actions ≤ 256 → (rows : List Row) → length rows ≡ 256 →
+    ((a : ℕ) → a < 256 → row_action (get_or rows a no_row) ≡ t.action a) → (a : ℕ) → row_action (get_or rows a no_row) ≡ t.action a
+copied_all t s few rows long f a =
+    ⊎_elim (f a) (λ h. ap row_action (get_or_past rows a no_row (omega arith)) ∙ (no_row_action ∙ sym (s.past a (omega arith)))) (cases_lt a 256)
 
 -- the whole copy
 pub copied_task : (t : Task) → Sound t → (start goal : AtomSet) (rows : List Row) → members start ≡ t.start → members goal ≡ t.goal →

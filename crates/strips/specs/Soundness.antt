@@ -5,7 +5,7 @@ use Rattle.std.proofs.Math.Nat.{min-le_right}
 use Rattle.std.proofs.lemmas.Bool.{and_parts}
 use Rattle.strips.specs.Sets.{Atoms, nothing, without, clipped, Within}
 use Rattle.strips.specs.Task.{Action, Task, Sound, SoundAction, no_action}
-use Rattle.strips.specs.Layers.{errand_task, with_closures, idle}
+use Rattle.strips.specs.Layers.{with_errand, with_closures, idle}
 
 pub within_clipped : (n : ℕ) (A : Atoms) → Within n (clipped n A)
 within_clipped n A p h = ltb-true p n (and_parts (nat_lt p n) (A p) h).0
@@ -13,14 +13,14 @@ within_clipped n A p h = ltb-true p n (and_parts (nat_lt p n) (A p) h).0
 within_nothing : (n : ℕ) → Within n nothing
 within_nothing n p e = absurd (true≢false (sym e))
 
-pub errand_sound : (t : Task) → Sound t → (s g : Atoms) → Sound (errand_task t s g)
-errand_sound t h s g = record {
+pub errand_sound : (t : Task) → Sound t → (s g : Atoms) → Within t.atoms s → Within t.atoms g → Sound (with_errand t s g)
+errand_sound t h s g start_in goal_in = record {
   atoms_in = h.atoms_in;
   actions_in = h.actions_in;
   each = h.each;
   past = h.past;
-  start_in = within_clipped t.atoms s;
-  goal_in = within_clipped t.atoms g;
+  start_in = start_in;
+  goal_in = goal_in;
 }
 
 idle_sound : (n : ℕ) (a : Action) → SoundAction n a → SoundAction n (idle a)

@@ -5,10 +5,10 @@ ghost use Rattle.strips.specs.Layers.{with_closures, closures_denied};
 ghost use Rattle.strips.specs.Sets.{first, inside};
 ghost use Rattle.strips.specs.Soundness.{closures_sound};
 
-use crate::{AtomSet, Denial, Row, Task};
+use crate::{AtomSet, Denial, Row, Task, is_small};
 
 /// Which actions are closed: a mark for each of 256.
-#[derive(Clone, Copy)]
+#[derive(Clone, Copy, Debug, PartialEq, Eq)]
 pub struct Closures {
     marks: [bool; 256],
 }
@@ -55,12 +55,7 @@ pub struct Closed<T> {
 fn closed_below(closures: &Closures, n: usize) -> bool
     ensures { result ≡ inside 256 (closed_of closures.now) (first n) }
 {
-    for action in n..256 {
-        if closures.is_closed(action) {
-            return false;
-        }
-    }
-    true
+    !(n..256).any(|action| closures.is_closed(action))
 }
 
 impl<T: Task + Drop> Closed<T> {
@@ -71,11 +66,10 @@ impl<T: Task + Drop> Closed<T> {
             × (with_closures (T.Task.meaning c.task) (closed_of c.closures) ≡ with_closures (T.Task.meaning task) (closed_of closures)))
             (λ d. closures_denied (T.Task.meaning task) (closed_of closures) ≡ Some d) }
     {
-        let actions = task.actions();
-        if task.atoms() > 64 || actions > 256 {
+        if !is_small(&task) {
             return Err(Denial::TaskOutOfRange);
         }
-        if !closed_below(&closures, actions) {
+        if !closed_below(&closures, task.actions()) {
             return Err(Denial::NoSuchNumber);
         }
         Ok(Closed { task, closures })

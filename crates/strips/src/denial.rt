@@ -1,8 +1,9 @@
 //! What can be refused.
 ghost use Rattle.std.specs.Prelude.{◌≡◌};
+ghost use Rattle.strips.specs.Numbers.{number_of};
 
 /// The reasons to refuse a call or a file, each under its number.
-#[derive(Clone, Copy, PartialEq, Eq)]
+#[derive(Clone, Copy, Debug, PartialEq, Eq)]
 pub enum Denial {
     /// The file ends inside a field.
     FileEnds = 1,
@@ -38,4 +39,12 @@ pub enum Denial {
     PlacesSpent = 16,
     /// A plan or a file does not fit its buffer, or a plan to check has over 4,095 actions.
     DoesNotFit = 17,
+}
+
+impl From<Denial> for u8 {
+    ghost from_gives = { λ denial number. number ≡ number_of denial };
+
+    fn from(denial: Denial) -> u8 {
+        denial as u8
+    }
 }

@@ -1,17 +1,20 @@
 //! A task with another start and goal.
 ghost use Rattle.std.specs.Prelude.{◌≡◌, Some, None, MatchResult};
+ghost use Rattle.strips.specs.Sets.{Within};
 ghost use Rattle.strips.specs.Bits.{members};
-ghost use Rattle.strips.specs.Layers.{with_errand, errand_task, errand_denied};
+ghost use Rattle.strips.specs.Layers.{with_errand, errand_denied};
 ghost use Rattle.strips.specs.Soundness.{errand_sound};
 
-use crate::{AtomSet, Denial, Part, Row, Task};
+use crate::{AtomSet, Denial, Part, Row, Task, is_small};
 
 /// A task of at most 64 atoms and 256 actions, asked from another start and for another goal.
 #[derive(Drop)]
-pub struct Errand<T> {
+pub struct Errand<T: Task> {
     task: T,
     start: AtomSet,
     goal: AtomSet,
+    ghost start_in: { Within (T.Task.meaning task).atoms (members start) },
+    ghost goal_in: { Within (T.Task.meaning task).atoms (members goal) },
 }
 
 impl<T: Task + Drop> Errand<T> {
@@ -19,13 +22,13 @@ impl<T: Task + Drop> Errand<T> {
     pub fn new(task: T, start: AtomSet, goal: AtomSet) -> Result<Errand<T>, Denial>
         ensures { MatchResult result
             (λ e. (errand_denied (T.Task.meaning task) (members start) (members goal) ≡ None)
-            × (errand_task (T.Task.meaning e.task) (members e.start) (members e.goal) ≡ with_errand (T.Task.meaning task) (members start) (members goal)))
+            × (with_errand (T.Task.meaning e.task) (members e.start) (members e.goal) ≡ with_errand (T.Task.meaning task) (members start) (members goal)))
             (λ d. errand_denied (T.Task.meaning task) (members start) (members goal) ≡ Some d) }
     {
-        let atoms = task.atoms();
-        if atoms > 64 || task.actions() > 256 {
+        if !is_small(&task) {
             return Err(Denial::TaskOutOfRange);
         }
+        let atoms = task.atoms();
         if !start.is_below(atoms) || !goal.is_below(atoms) {
             return Err(Denial::AtomOutOfRange);
         }
@@ -34,9 +37,9 @@ impl<T: Task + Drop> Errand<T> {
 }
 
 impl<T: Task> Task for Errand<T> {
-    ghost meaning = { λ e. errand_task (T.Task.meaning e.task) (members e.start) (members e.goal) };
+    ghost meaning = { λ e. with_errand (T.Task.meaning e.task) (members e.start) (members e.goal) };
 
-    ghost sound = { λ e. errand_sound (T.Task.meaning e.task) (T.Task.sound e.task) (members e.start) (members e.goal) };
+    ghost sound = { λ e. errand_sound (T.Task.meaning e.task) (T.Task.sound e.task) (members e.start) (members e.goal) e.start_in e.goal_in };
 
     fn atoms(&self) -> usize {
         self.task.atoms()
@@ -63,11 +66,11 @@ impl<T: Task> Task for Errand<T> {
     }
 
     fn in_start(&self, atom: usize) -> bool {
-        atom < self.task.atoms() && self.start.has(atom)
+        self.start.has(atom)
     }
 
     fn in_goal(&self, atom: usize) -> bool {
-        atom < self.task.atoms() && self.goal.has(atom)
+        self.goal.has(atom)
     }
 
     fn row(&self, action: usize) -> Row {

@@ -11,12 +11,6 @@ const MOST_ATOMS: usize = 64;
 
 const MOST_ACTIONS: usize = 256;
 
-fn blank_rows() -> [Row; 256]
-    ensures { result ≡ replicate 256 blank_row }
-{
-    [Row::BLANK; 256]
-}
-
 /// A table of some atoms and actions, cost 1 in every row, and all sets empty.
 fn blank(atoms: usize, actions: usize) -> RowTable
     requires { (atoms ≤ 64) × (actions ≤ 256) }
@@ -27,7 +21,7 @@ fn blank(atoms: usize, actions: usize) -> RowTable
         actions,
         start: AtomSet::EMPTY,
         goal: AtomSet::EMPTY,
-        rows: blank_rows(),
+        rows: [Row::BLANK; 256],
     }
 }
 

@@ -2,7 +2,7 @@
 use crate::AtomSet;
 
 /// What an action needs, adds, removes and costs, the cost in tenths of a second.
-#[derive(Clone, Copy)]
+#[derive(Clone, Copy, Debug, PartialEq, Eq)]
 pub struct Row {
     pub needs: AtomSet,
     pub adds: AtomSet,

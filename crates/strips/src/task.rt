@@ -1,5 +1,5 @@
 //! The task interface.
-ghost use Rattle.std.specs.Prelude.{◌≡◌, ℕ, ◌<◌, ◌≤◌};
+ghost use Rattle.std.specs.Prelude.{◌≡◌, ℕ, ◌<◌, ◌≤◌, length};
 ghost use Rattle.strips.specs.Task.{Task as Meaning, Sound, small};
 ghost use Rattle.strips.specs.Sets.{clipped};
 ghost use Rattle.strips.specs.Bits.{members};
@@ -57,42 +57,36 @@ pub trait Task {
     fn set_of(&self, part: Part) -> AtomSet
         ensures { members result ≡ clipped 64 (part_of (meaning self.now) part) }
     {
-        let mut bits = 0u64;
-        for atom in 0..64usize {
+        let mut set = AtomSet::EMPTY;
+        for atom in 0..64 {
             if self.holds(part, atom) {
-                bits |= 1 << atom;
+                set = set.with(atom);
             }
         }
-        AtomSet::from_bits(bits)
+        set
     }
 
     /// The first atom at or after `from` of one of the task's sets.
     fn next_of(&self, part: Part, from: usize) -> Option<usize>
         ensures { FirstFrom (part_of (meaning self.now) part) from result }
     {
-        for atom in from..self.atoms() {
-            if self.holds(part, atom) {
-                return Some(atom);
-            }
-        }
-        None
+        (from..self.atoms()).find(|&atom| self.holds(part, atom))
     }
 
-    /// Lists the first atoms at or after `from` of one of the task's sets, in rising order, and tells how many.
-    fn list_of(&self, part: Part, from: usize, list: &mut [u16; 16]) -> usize
-        ensures { Listed (part_of (meaning self.now) part) from result list.new }
+    /// Lists the first atoms at or after `from` of one of the task's sets at the front of a buffer, in rising order: all of
+    /// them, or as many as there is room for.
+    fn list_of<'a>(&self, part: Part, from: usize, buffer: &'a mut [u16; 16]) -> &'a [u16]
+        ensures { Listed (part_of (meaning self.now) part) from (length result.now) result.now }
     {
-        let mut count = 0;
         let mut at = from;
-        while count < 16 {
+        for (count, place) in buffer.iter_mut().enumerate() {
             let Some(atom) = self.next_of(part, at) else {
-                return count;
+                return &buffer[..count];
             };
-            list[count] = atom as u16;
-            count += 1;
+            *place = atom as u16;
             at = atom + 1;
         }
-        count
+        buffer
     }
 
     /// An action's sets, as `set_of` has them, and its cost.
@@ -165,8 +159,8 @@ impl<T: Task> Task for &T {
         (**self).next_of(part, from)
     }
 
-    fn list_of(&self, part: Part, from: usize, list: &mut [u16; 16]) -> usize {
-        (**self).list_of(part, from, list)
+    fn list_of<'a>(&self, part: Part, from: usize, buffer: &'a mut [u16; 16]) -> &'a [u16] {
+        (**self).list_of(part, from, buffer)
     }
 
     fn row(&self, action: usize) -> Row {

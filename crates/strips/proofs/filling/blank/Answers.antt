@@ -1,27 +1,23 @@
-use Rattle.std.proofs.Common.{◌≤◌, List, sym, ap, ◌∙◌, subst, arith}
+use Rattle.std.proofs.Common.{◌≤◌, arith}
 use Rattle.strips.specs.Sets.{Within, Apart}
 use Rattle.strips.specs.Bits.{members}
-use Rattle.strips.specs.Rows.{rows_task, AllWithin, AllApart, AllCheap}
-use Rattle.strips.specs.declared.row.Row.{Row}
 use Rattle.strips.proofs.Rowed.{empty_none, blank_each, blank_made}
 use Rattle.strips.proofs.filling.blank.Goals as goal
 
 pub invariant_of-result : goal.invariant_of-result
 invariant_of-result c =
-    let e = sym c.blank_rows.ensures in
     let n = c.args.atoms in record {
       few_atoms = omega arith;
       few_actions = omega arith;
       start_in = λ p h. absurd (empty_none p h);
       goal_in = λ p h. absurd (empty_none p h);
-      needs_in = subst (λ (rows : List Row). AllWithin n (λ r. r.needs) rows) e (blank_each (λ r. Within n (members r.needs)) (λ p h. absurd (empty_none p h)) (λ p h. absurd (empty_none p h)));
-      adds_in = subst (λ (rows : List Row). AllWithin n (λ r. r.adds) rows) e (blank_each (λ r. Within n (members r.adds)) (λ p h. absurd (empty_none p h)) (λ p h. absurd (empty_none p h)));
-      removes_in = subst (λ (rows : List Row). AllWithin n (λ r. r.removes) rows) e (blank_each (λ r. Within n (members r.removes)) (λ p h. absurd (empty_none p h)) (λ p h. absurd (empty_none p h)));
-      apart = subst (λ (rows : List Row). AllApart rows) e (blank_each (λ r. Apart (members r.adds) (members r.removes)) (λ p h _. empty_none p h) (λ p h _. empty_none p h));
-      cheap = subst (λ (rows : List Row). AllCheap rows) e (blank_each (λ r. r.cost ≤ 65535) (omega arith) (omega arith));
+      needs_in = blank_each (λ r. Within n (members r.needs)) (λ p h. absurd (empty_none p h)) (λ p h. absurd (empty_none p h));
+      adds_in = blank_each (λ r. Within n (members r.adds)) (λ p h. absurd (empty_none p h)) (λ p h. absurd (empty_none p h));
+      removes_in = blank_each (λ r. Within n (members r.removes)) (λ p h. absurd (empty_none p h)) (λ p h. absurd (empty_none p h));
+      apart = blank_each (λ r. Apart (members r.adds) (members r.removes)) (λ p h _. empty_none p h) (λ p h _. empty_none p h);
+      cheap = blank_each (λ r. r.cost ≤ 65535) (omega arith) (omega arith);
     }
 
 pub returns : goal.returns
 returns c =
-    ap (λ (rows : List Row). rows_task c.args.atoms c.args.actions (record { bits = 0 }) (record { bits = 0 }) rows) c.blank_rows.ensures
-    ∙ blank_made c.args.atoms c.args.actions (omega arith)
+    blank_made c.args.atoms c.args.actions (omega arith)

@@ -1,11 +1,8 @@
-use Rattle.std.proofs.Common.{◌-◌, ap, ◌∙◌, arith}
-use Rattle.std.proofs.lemmas.Nat.{one_shl, pow_pos}
+use Rattle.std.proofs.Common.{◌-◌, ap, ◌∙◌}
+use Rattle.std.proofs.lemmas.Nat.{one_shl}
 use Rattle.strips.specs.Bits.{bits_of}
 use Rattle.strips.proofs.Members.{bits_first, bits_all}
 use Rattle.strips.proofs.masks.ones.Goals as goal
-
-pub overflow_sub-result : goal.overflow_sub-result
-overflow_sub-result c = let e = one_shl c.args.n 64 c.if-n-ge64.false in let p = pow_pos c.args.n in omega arith
 
 pub returns-then-n-ge64 : goal.returns-then-n-ge64
 returns-then-n-ge64 c = bits_all c.args.n c.if-n-ge64.true

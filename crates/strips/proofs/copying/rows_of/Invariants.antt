@@ -1,9 +1,0 @@
-use Rattle.std.proofs.Common.{◌≡◌, ℕ, ◌<◌, ◌≤◌, length, get_or}
-use Rattle.strips.specs.Rows.{row_action, no_row}
-use Rattle.strips.proofs.copying.rows_of.Given as goal
-
-abbrev pub invariant-loop-action : goal.invariant-loop-action
-invariant-loop-action g l =
-    ((a : ℕ) → a < l.action → row_action (get_or l.rows a no_row) ≡ (g.T.Task.meaning l.task).action a)
-    × ((a : ℕ) → l.action ≤ a → get_or l.rows a no_row ≡ no_row)
-    × (length l.rows ≡ 256)
