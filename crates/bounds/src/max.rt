@@ -19,14 +19,14 @@ where
     F: FnMut(&[u16]) -> ControlFlow<()>,
     requires { F.IsAlwaysCallable visit }
 {
-    let mut list = [0u16; BATCH];
+    let mut buffer = [0u16; BATCH];
     let mut from = 0;
     for _ in 0..ROUNDS {
-        let count = task.list_of(part, from, &mut list);
-        if visit(&list[..count]).is_break() || count < BATCH {
+        let batch = task.list_of(part, from, &mut buffer);
+        if visit(batch).is_break() || batch.len() < BATCH {
             break;
         }
-        from = usize::from(list[BATCH - 1]) + 1;
+        from = usize::from(batch[BATCH - 1]) + 1;
     }
 }
 
