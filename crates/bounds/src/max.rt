@@ -1,6 +1,4 @@
 //! The bound over single atoms, on any task.
-ghost use Rattle.std.specs.Prelude.{◌<◌, ◌≤◌};
-
 use crate::table::reached;
 use crate::{CostTable, NONE};
 use std::ops::ControlFlow;

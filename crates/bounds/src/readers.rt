@@ -1,8 +1,8 @@
 //! Which actions need an atom.
-ghost use Rattle.std.specs.Prelude.{◌≡◌, ◌<◌, ◌≤◌, length, replicate};
+ghost use Rattle.std.specs.Prelude.{◌<◌};
 ghost use Rattle.strips.specs.Bits.{members};
 ghost use Rattle.strips.specs.Table.{table_task};
-ghost use Rattle.bounds.specs.Readers.{no_set, Enters, ReadsBlock, Reads, Needing};
+ghost use Rattle.bounds.specs.Readers.{Enters, ReadsBlock, Reads, Needing};
 
 use strips::{AtomSet, RowTable, Task};
 

@@ -4,8 +4,7 @@ ghost use Rattle.std.specs.Prelude.{◌≡◌, ◌+◌, ◌-◌, ◌*◌, ◌/�
 use crate::CostTable;
 
 /// A table that is lent for a task of at most 64 atoms. A set of one atom has the atom's number, and the sets of two follow, by
-/// the higher atom and then by the lower one. An atom is a plain number here, as it is in a task, in a set and in a table, and
-/// so most methods ask that it is below 64.
+/// the higher atom and then by the lower one.
 #[derive(Drop)]
 pub(crate) struct SetCosts<'a> {
     table: &'a mut CostTable,
@@ -13,6 +12,8 @@ pub(crate) struct SetCosts<'a> {
     ghost few_atoms: { atoms ≤ 64 },
 }
 
+// An atom is a plain number, as in a task, a set and a table, and so most methods ask that it is below 64. With a type for a set
+// of one or two atoms, which would ask that once, the bound over pairs takes an eighth longer on a dense task.
 impl<'a> SetCosts<'a> {
     pub(crate) fn new(table: &'a mut CostTable, atoms: usize) -> SetCosts<'a>
         requires { atoms ≤ 64 }

@@ -1,5 +1,5 @@
 //! The bound over single atoms of a small task.
-ghost use Rattle.std.specs.Prelude.{◌<◌, ◌≤◌};
+ghost use Rattle.std.specs.Prelude.{◌≤◌};
 
 use crate::front::{Front, ToLookAt, up_to};
 use crate::table::reached;

@@ -1,5 +1,5 @@
 //! Costs of sets of atoms.
-ghost use Rattle.std.specs.Prelude.{◌≡◌, ◌+◌, ◌<◌, ◌≤◌, replicate};
+ghost use Rattle.std.specs.Prelude.{◌≡◌, ◌+◌, ◌≤◌, replicate};
 ghost use Rattle.bounds.specs.Costs.{cost_at, above, lowered};
 
 /// The cost of a set that nothing reaches. An entry has this number, and is no `Option`, since `None` comes before every cost.

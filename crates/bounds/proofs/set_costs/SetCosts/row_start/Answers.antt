@@ -1,4 +1,4 @@
-use Rattle.std.proofs.Common.{◌≡◌, ℕ, ◌+◌, ◌-◌, ◌*◌, ◌/◌, ◌<◌, ◌≤◌, ap, mul-le-mul, arith}
+use Rattle.std.proofs.Common.{◌≡◌, ℕ, ◌-◌, ◌*◌, ◌<◌, ◌≤◌, mul-le-mul, arith}
 use Rattle.bounds.proofs.set_costs.SetCosts.row_start.Goals as goal
 
 -- there are at most 63 * 62 / 2 sets before the last row
@@ -11,7 +11,5 @@ overflow_mul-result c = let l = low c.args.high c.saturating_sub.result c.requir
 pub overflow_add-result : goal.overflow_add-result
 overflow_add-result c = let l = low c.args.high c.saturating_sub.result c.requires c.saturating_sub.ensures in omega arith
 
-pub returns : goal.returns
-returns c =
-    let l = low c.args.high c.saturating_sub.result c.requires c.saturating_sub.ensures in
-    record { is = ap (λ x. c.args.self.now.atoms + c.args.high * x / 2) c.saturating_sub.ensures; room = omega arith }
+pub returns-clause-room : goal.returns-clause-room
+returns-clause-room c = let l = low c.args.high c.saturating_sub.result c.requires c.saturating_sub.ensures in omega arith
