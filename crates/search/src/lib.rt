@@ -22,11 +22,8 @@ fn turns<E: Estimator>(
     ensures { IfOk result (λ goal. IfSome goal (λ place. place < table.new.used)) }
 {
     let goal = task.set_of(Part::Goal);
-    // a turn closes a place for good, so there are no more turns than places, and one that ends the search
-    'turns: for _ in 0..=table.room() {
-        let Some(chosen) = table.choose() else {
-            return Ok(None);
-        };
+    // it ends, since a turn closes a place for good
+    'turns: while let Some(chosen) = table.choose() {
         let from = table.in_use()[chosen];
         if goal.is_inside(from.state) {
             return Ok(Some(chosen));
@@ -61,7 +58,7 @@ fn turns<E: Estimator>(
             table.put(Place::new(state, way, estimate))?;
         }
     }
-    Err(table.full())
+    Ok(None)
 }
 
 /// Searches for a cheapest plan of a task, from its start, in the table `places`, and writes it to the front of `plan`.

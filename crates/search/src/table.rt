@@ -1,5 +1,6 @@
 //! The table of a search.
-ghost use Rattle.std.specs.Prelude.{◌≡◌, ℕ, ◌<◌, ◌+◌, ◌≤◌, length, IfOk, IfSome};
+ghost use Rattle.std.specs.Prelude.{◌≡◌, ℕ, true, ◌<◌, ◌+◌, ◌≤◌, length, take, IfOk, IfSome};
+ghost use Rattle.search.specs.Places.{is_open, IsOpen, not_closed};
 
 use crate::place::Way;
 use crate::way_back::WayBack;
@@ -31,14 +32,9 @@ impl<'a> Table<'a> {
         }
     }
 
-    /// How many places can be in use.
-    pub(crate) fn room(&self) -> usize {
-        self.places.len()
-    }
-
     /// The places in use.
     pub(crate) fn in_use(&self) -> &[Place]
-        ensures { length result.now ≡ self.now.used }
+        ensures { result.now ≡ take self.now.used self.now.places.now }
     {
         &self.places[..self.used]
     }
@@ -60,7 +56,7 @@ impl<'a> Table<'a> {
 
     /// The open place of least paid + estimate, the lowest of several.
     pub(crate) fn choose(&self) -> Option<usize>
-        ensures { IfSome result (λ place. place < self.now.used) }
+        ensures { IfSome result (IsOpen self.now.places.now self.now.used) }
     {
         // a loop, since `filter` and `min_by_key` take half as long again and each turn passes over all places
         let mut best = None;
@@ -76,8 +72,9 @@ impl<'a> Table<'a> {
 
     /// Closes a place in use.
     pub(crate) fn close(&mut self, place: usize)
-        requires { place < self.old.used }
-        ensures { self.new.used ≡ self.old.used }
+        requires { IsOpen self.old.places.now self.old.used place }
+        ensures in_use { self.new.used ≡ self.old.used }
+        ensures closed { not_closed self.new.places.now self.new.used + 1 ≡ not_closed self.old.places.now self.old.used }
     {
         self.places[place].open = false;
     }
@@ -85,7 +82,8 @@ impl<'a> Table<'a> {
     /// Reaches a place in use by another way.
     pub(crate) fn reach(&mut self, place: usize, way: Way)
         requires { place < self.old.used }
-        ensures { self.new.used ≡ self.old.used }
+        ensures in_use { self.new.used ≡ self.old.used }
+        ensures closed { not_closed self.new.places.now self.new.used ≡ not_closed self.old.places.now self.old.used }
     {
         let places = &mut *self.places;
         places[place].reach(way);
@@ -93,7 +91,9 @@ impl<'a> Table<'a> {
 
     /// Puts a place behind those in use.
     pub(crate) fn put(&mut self, place: Place) -> Result<(), Refused>
-        ensures { IfOk result (λ _. self.new.used ≡ self.old.used + 1) }
+        requires { is_open place ≡ true }
+        ensures in_use { IfOk result (λ _. self.new.used ≡ self.old.used + 1) }
+        ensures closed { IfOk result (λ _. not_closed self.new.places.now self.new.used ≡ not_closed self.old.places.now self.old.used) }
     {
         if self.used == self.places.len() {
             return Err(self.full());
