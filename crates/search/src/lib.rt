@@ -1,7 +1,8 @@
 //! A* over the states of a task, in a lent table.
 #![tactic(auto)]
 
-ghost use Rattle.std.specs.Prelude.{ℕ, ◌<◌, IfOk, IfSome};
+ghost use Rattle.std.specs.Prelude.{ℕ, ◌<◌, length, IfOk, IfSome};
+ghost use Rattle.search.specs.Answer.{PlanWithin};
 
 mod place;
 mod table;
@@ -67,7 +68,9 @@ pub fn search<T: Task, E: Estimator>(
     estimator: &mut E,
     places: &mut [Place],
     plan: &mut [u16],
-) -> Result<Answer, Refused> {
+) -> Result<Answer, Refused>
+    ensures { IfOk result (PlanWithin (length plan.new)) }
+{
     let mut copy = RowTable::new();
     copy.copy_from(task)?;
     let start = copy.set_of(Part::Start);

@@ -1,5 +1,6 @@
 //! The table of a search.
 ghost use Rattle.std.specs.Prelude.{◌≡◌, ℕ, true, ◌<◌, ◌+◌, ◌≤◌, length, take, IfOk, IfSome};
+ghost use Rattle.search.specs.Answer.{PlanWithin};
 ghost use Rattle.search.specs.Places.{is_open, IsOpen, not_closed};
 
 use crate::place::Way;
@@ -111,6 +112,7 @@ impl<'a> Table<'a> {
     /// Tells the plan that leads to place `goal`, and writes it to the front of `plan`.
     pub(crate) fn tell(&self, goal: usize, plan: &mut [u16]) -> Result<Answer, Refused>
         requires { goal < self.now.used }
+        ensures { IfOk result (PlanWithin (length plan.new)) }
     {
         let length = self.way_back(goal).count();
         let slots = plan.get_mut(..length).ok_or(Denial::DoesNotFit)?;
