@@ -1,7 +1,7 @@
 //! The table of a search.
 ghost use Rattle.std.specs.Prelude.{◌≡◌, ℕ, true, ◌<◌, ◌+◌, ◌≤◌, length, take, IfOk, IfSome};
 ghost use Rattle.search.specs.Answer.{PlanWithin};
-ghost use Rattle.search.specs.Places.{is_open, IsOpen, not_closed};
+ghost use Rattle.search.specs.Places.{is_open};
 
 use crate::place::Way;
 use crate::way_back::WayBack;
@@ -23,6 +23,8 @@ pub(crate) struct Table<'a> {
 }
 
 impl<'a> Table<'a> {
+    ghost use Rattle.search.specs.Table.{IsOpen, not_closed};
+
     /// A table with no place in use.
     pub(crate) fn new(places: &'a mut [Place]) -> Table<'a> {
         let room = places.len().min(MOST_PLACES);
@@ -47,17 +49,9 @@ impl<'a> Table<'a> {
         &self.states[..self.used]
     }
 
-    /// What is refused where no place is left.
-    pub(crate) fn full(&self) -> Refused {
-        Refused {
-            denial: Denial::PlacesSpent,
-            used: Some(self.used),
-        }
-    }
-
     /// The open place of least paid + estimate, the lowest of several.
     pub(crate) fn choose(&self) -> Option<usize>
-        ensures { IfSome result (IsOpen self.now.places.now self.now.used) }
+        ensures { IfSome result (IsOpen self.now) }
     {
         // a loop, since `filter` and `min_by_key` take half as long again and each turn passes over all places
         let mut best = None;
@@ -73,9 +67,9 @@ impl<'a> Table<'a> {
 
     /// Closes a place in use.
     pub(crate) fn close(&mut self, place: usize)
-        requires { IsOpen self.old.places.now self.old.used place }
+        requires { IsOpen self.old place }
         ensures in_use { self.new.used ≡ self.old.used }
-        ensures closed { not_closed self.new.places.now self.new.used + 1 ≡ not_closed self.old.places.now self.old.used }
+        ensures closed { not_closed self.new + 1 ≡ not_closed self.old }
     {
         self.places[place].open = false;
     }
@@ -84,7 +78,7 @@ impl<'a> Table<'a> {
     pub(crate) fn reach(&mut self, place: usize, way: Way)
         requires { place < self.old.used }
         ensures in_use { self.new.used ≡ self.old.used }
-        ensures closed { not_closed self.new.places.now self.new.used ≡ not_closed self.old.places.now self.old.used }
+        ensures closed { not_closed self.new ≡ not_closed self.old }
     {
         let places = &mut *self.places;
         places[place].reach(way);
@@ -94,10 +88,13 @@ impl<'a> Table<'a> {
     pub(crate) fn put(&mut self, place: Place) -> Result<(), Refused>
         requires { is_open place ≡ true }
         ensures in_use { IfOk result (λ _. self.new.used ≡ self.old.used + 1) }
-        ensures closed { IfOk result (λ _. not_closed self.new.places.now self.new.used ≡ not_closed self.old.places.now self.old.used) }
+        ensures closed { IfOk result (λ _. not_closed self.new ≡ not_closed self.old) }
     {
         if self.used == self.places.len() {
-            return Err(self.full());
+            return Err(Refused {
+                denial: Denial::PlacesSpent,
+                used: Some(self.used),
+            });
         }
         self.places[self.used] = place;
         self.states[self.used] = place.state;
