@@ -27,10 +27,7 @@ fn bound_line(task: &RowTable, order: usize) -> Result<BoundLine, Denial> {
 fn plan_line<'a>(task: &RowTable, places: &mut [Place], plan: &'a mut [u16]) -> PlanLine<'a> {
     let mut estimator = Direct::new(2);
     match search(task, &mut estimator, places, plan) {
-        Ok(Answer::Found((length, cost, _))) => match plan.get(..length) {
-            Some(actions) => PlanLine::Found(cost, actions),
-            None => PlanLine::Refused(Denial::DoesNotFit),
-        },
+        Ok(Answer::Found((length, cost, _))) => PlanLine::Found(cost, &plan[..length]),
         Ok(Answer::Nothing(_)) => PlanLine::Nothing,
         Err(refused) => PlanLine::Refused(refused.denial),
     }

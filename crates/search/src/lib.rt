@@ -1,7 +1,8 @@
 //! A* over the states of a task, in a lent table.
 #![tactic(auto)]
 
-ghost use Rattle.std.specs.Prelude.{ℕ, ◌<◌, IfOk, IfSome};
+ghost use Rattle.std.specs.Prelude.{ℕ, ◌<◌, length, IfOk, IfSome};
+ghost use Rattle.search.specs.Answer.{PlanWithin};
 
 mod place;
 mod table;
@@ -22,11 +23,8 @@ fn turns<E: Estimator>(
     ensures { IfOk result (λ goal. IfSome goal (λ place. place < table.new.used)) }
 {
     let goal = task.set_of(Part::Goal);
-    // a turn closes a place for good, so there are no more turns than places, and one that ends the search
-    'turns: for _ in 0..=table.room() {
-        let Some(chosen) = table.choose() else {
-            return Ok(None);
-        };
+    // it ends, since a turn closes a place for good
+    'turns: while let Some(chosen) = table.choose() {
         let from = table.in_use()[chosen];
         if goal.is_inside(from.state) {
             return Ok(Some(chosen));
@@ -61,7 +59,7 @@ fn turns<E: Estimator>(
             table.put(Place::new(state, way, estimate))?;
         }
     }
-    Err(table.full())
+    Ok(None)
 }
 
 /// Searches for a cheapest plan of a task, from its start, in the table `places`, and writes it to the front of `plan`.
@@ -70,7 +68,9 @@ pub fn search<T: Task, E: Estimator>(
     estimator: &mut E,
     places: &mut [Place],
     plan: &mut [u16],
-) -> Result<Answer, Refused> {
+) -> Result<Answer, Refused>
+    ensures { IfOk result (PlanWithin (length plan.new)) }
+{
     let mut copy = RowTable::new();
     copy.copy_from(task)?;
     let start = copy.set_of(Part::Start);

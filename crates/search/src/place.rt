@@ -1,5 +1,6 @@
 //! The places of a search table, and what a search tells.
-ghost use Rattle.std.specs.Prelude.{◌≡◌, None};
+ghost use Rattle.std.specs.Prelude.{◌≡◌, true, None};
+ghost use Rattle.search.specs.Places.{is_open};
 
 use strips::{AtomSet, Denial};
 
@@ -29,7 +30,9 @@ impl Place {
     };
 
     /// An open place.
-    pub(crate) fn new(state: AtomSet, way: Way, estimate: u32) -> Place {
+    pub(crate) fn new(state: AtomSet, way: Way, estimate: u32) -> Place
+        ensures { is_open result ≡ true }
+    {
         Place {
             state,
             paid: way.paid,
@@ -46,7 +49,9 @@ impl Place {
     }
 
     /// Takes a way that is cheaper, if the place is open.
-    pub(crate) fn reach(&mut self, way: Way) {
+    pub(crate) fn reach(&mut self, way: Way)
+        ensures { is_open self.new ≡ is_open self.old }
+    {
         if self.open && way.paid < self.paid {
             self.paid = way.paid;
             self.parent = way.parent;

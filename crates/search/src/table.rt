@@ -1,5 +1,7 @@
 //! The table of a search.
-ghost use Rattle.std.specs.Prelude.{◌≡◌, ℕ, ◌<◌, ◌+◌, ◌≤◌, length, IfOk, IfSome};
+ghost use Rattle.std.specs.Prelude.{◌≡◌, ℕ, true, ◌<◌, ◌+◌, ◌≤◌, length, take, IfOk, IfSome};
+ghost use Rattle.search.specs.Answer.{PlanWithin};
+ghost use Rattle.search.specs.Places.{is_open};
 
 use crate::place::Way;
 use crate::way_back::WayBack;
@@ -21,6 +23,8 @@ pub(crate) struct Table<'a> {
 }
 
 impl<'a> Table<'a> {
+    ghost use Rattle.search.specs.Table.{IsOpen, not_closed};
+
     /// A table with no place in use.
     pub(crate) fn new(places: &'a mut [Place]) -> Table<'a> {
         let room = places.len().min(MOST_PLACES);
@@ -31,14 +35,9 @@ impl<'a> Table<'a> {
         }
     }
 
-    /// How many places can be in use.
-    pub(crate) fn room(&self) -> usize {
-        self.places.len()
-    }
-
     /// The places in use.
     pub(crate) fn in_use(&self) -> &[Place]
-        ensures { length result.now ≡ self.now.used }
+        ensures { result.now ≡ take self.now.used self.now.places.now }
     {
         &self.places[..self.used]
     }
@@ -50,17 +49,9 @@ impl<'a> Table<'a> {
         &self.states[..self.used]
     }
 
-    /// What is refused where no place is left.
-    pub(crate) fn full(&self) -> Refused {
-        Refused {
-            denial: Denial::PlacesSpent,
-            used: Some(self.used),
-        }
-    }
-
     /// The open place of least paid + estimate, the lowest of several.
     pub(crate) fn choose(&self) -> Option<usize>
-        ensures { IfSome result (λ place. place < self.now.used) }
+        ensures { IfSome result (IsOpen self.now) }
     {
         // a loop, since `filter` and `min_by_key` take half as long again and each turn passes over all places
         let mut best = None;
@@ -76,8 +67,9 @@ impl<'a> Table<'a> {
 
     /// Closes a place in use.
     pub(crate) fn close(&mut self, place: usize)
-        requires { place < self.old.used }
-        ensures { self.new.used ≡ self.old.used }
+        requires { IsOpen self.old place }
+        ensures in_use { self.new.used ≡ self.old.used }
+        ensures closed { not_closed self.new + 1 ≡ not_closed self.old }
     {
         self.places[place].open = false;
     }
@@ -85,7 +77,8 @@ impl<'a> Table<'a> {
     /// Reaches a place in use by another way.
     pub(crate) fn reach(&mut self, place: usize, way: Way)
         requires { place < self.old.used }
-        ensures { self.new.used ≡ self.old.used }
+        ensures in_use { self.new.used ≡ self.old.used }
+        ensures closed { not_closed self.new ≡ not_closed self.old }
     {
         let places = &mut *self.places;
         places[place].reach(way);
@@ -93,10 +86,15 @@ impl<'a> Table<'a> {
 
     /// Puts a place behind those in use.
     pub(crate) fn put(&mut self, place: Place) -> Result<(), Refused>
-        ensures { IfOk result (λ _. self.new.used ≡ self.old.used + 1) }
+        requires { is_open place ≡ true }
+        ensures in_use { IfOk result (λ _. self.new.used ≡ self.old.used + 1) }
+        ensures closed { IfOk result (λ _. not_closed self.new ≡ not_closed self.old) }
     {
         if self.used == self.places.len() {
-            return Err(self.full());
+            return Err(Refused {
+                denial: Denial::PlacesSpent,
+                used: Some(self.used),
+            });
         }
         self.places[self.used] = place;
         self.states[self.used] = place.state;
@@ -111,6 +109,7 @@ impl<'a> Table<'a> {
     /// Tells the plan that leads to place `goal`, and writes it to the front of `plan`.
     pub(crate) fn tell(&self, goal: usize, plan: &mut [u16]) -> Result<Answer, Refused>
         requires { goal < self.now.used }
+        ensures { IfOk result (PlanWithin (length plan.new)) }
     {
         let length = self.way_back(goal).count();
         let slots = plan.get_mut(..length).ok_or(Denial::DoesNotFit)?;

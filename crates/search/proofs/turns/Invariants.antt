@@ -1,4 +1,5 @@
-use Rattle.std.proofs.Common.{◌-◌, ◌<◌, ◌≤◌, length}
+use Rattle.std.proofs.Common.{◌≡◌, ◌-◌, ◌<◌, ◌≤◌, length}
+use Rattle.search.specs.Table.{not_closed}
 use Rattle.search.proofs.turns.Given as goal
 
 abbrev pub invariant-loop-at : goal.invariant-loop-at
@@ -8,4 +9,9 @@ abbrev pub decreases-loop-at : goal.decreases-loop-at
 decreases-loop-at g l = length l.known - l.at
 
 abbrev pub invariant-actions : goal.invariant-actions
-invariant-actions g l = l.chosen < l.table.used
+invariant-actions g l =
+    (l.chosen < l.table.used)
+    × (not_closed l.table ≡ not_closed l.initial.table)
+
+abbrev pub decreases-turns : goal.decreases-turns
+decreases-turns g l = not_closed l.table

@@ -1,5 +1,6 @@
-use Rattle.std.proofs.Common.{◌<◌, IfSome}
+use Rattle.std.proofs.Common.{IfSome}
+use Rattle.search.specs.Table.{IsOpen}
 use Rattle.search.proofs.table.Table.choose.Given as goal
 
 abbrev pub invariant-loop-at : goal.invariant-loop-at
-invariant-loop-at l = IfSome l.best (λ place. place < l.self.used)
+invariant-loop-at l = IfSome l.best (IsOpen l.self)
