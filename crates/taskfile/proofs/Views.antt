@@ -5,7 +5,7 @@ use Rattle.std.specs.Result.{IfOk, result_unwrap_or}
 use Rattle.std.proofs.ByRecursion.{All-get_or}
 use Rattle.std.proofs.lemmas.List.{take_rest}
 use Rattle.std.proofs.lemmas.Bool.{cases_lt, and_parts, cond-true, cond-false, lt-ltb, le-ltb}
-use Rattle.strips.specs.Sets.{Atoms, nothing, without, clipped, first, inside, Within}
+use Rattle.strips.specs.Sets.{Atoms, nothing, without, clipped, Within}
 use Rattle.strips.specs.Task.{Action, SoundAction, no_action}
 use Rattle.strips.specs.Bits.{bit, bits_of, members, number}
 use Rattle.strips.specs.Parts.{part_of}
@@ -15,14 +15,12 @@ use Rattle.strips.specs.declared.atoms.AtomSet.{AtomSet}
 use Rattle.strips.specs.declared.part.Part.{Part}
 use Rattle.strips.specs.declared.part.Part.TheVariants.{Needs, Adds, Removes, Start, Goal}
 use Rattle.strips.specs.declared.row.Row.{Row}
-use Rattle.strips.proofs.Binary.{inside_from}
 use Rattle.strips.proofs.Members.{same_atoms, clipped_within, clipped_part, bits_none}
-use Rattle.strips.proofs.Layered.{below_within}
 use Rattle.taskfile.specs.Content.{Entry, Content, entry_of, entry_action, task_of, blank}
 use Rattle.taskfile.specs.Format.{Accepted}
 use Rattle.taskfile.specs.Reading.{Bytes, set_at, entry, records, header, content}
 use Rattle.taskfile.specs.Reads.{Placed, Reads}
-use Rattle.taskfile.specs.View.{action_or_none, below_or_none, raw, view_task}
+use Rattle.taskfile.specs.View.{action_or_none, raw, view_task}
 use Rattle.taskfile.specs.declared.fault.Fault.{Fault}
 use Rattle.taskfile.specs.declared.reader.Reader.{Reader}
 use Rattle.taskfile.specs.declared.view.FileView.{FileView}
@@ -47,13 +45,6 @@ trimmed_same n a s = same_action (trimmed_action n a) a
     apart : without a.removes a.adds ≡ a.removes
     apart = same_atoms (without a.removes a.adds) a.removes (λ p. keep (a.adds p) (a.removes p) (s.apart p))
 
-below_in : (n : ℕ) (s : AtomSet) (p : ℕ) → below_or_none n (members s) p ≡ true → (p < n) × (p < 64)
-below_in n s p h = go (inside 64 (members s) (first n)) refl h
-  where
-    go : (b : Bool) → inside 64 (members s) (first n) ≡ b → cond b (members s) nothing p ≡ true → (p < n) × (p < 64)
-    go true e k = (below_within n (members s) (within_members s) (sym e) p k, within_members s p k)
-    go false e k = absurd (true≢false (sym k))
-
 module _ (v : FileView) where
   pub view_actions : (view_task v).actions ≡ v.actions
   unfolding view_task
@@ -61,22 +52,18 @@ module _ (v : FileView) where
 
   pub view_past : (a : ℕ) → v.actions ≤ a → (view_task v).action a ≡ no_action
   unfolding view_task
-  view_past a l = cond-false _ _ _ (le-ltb a (min (min v.actions 256) 16640) (omega arith))
+  view_past a l = cond-false _ _ _ (le-ltb a (min v.actions 16640) (omega arith))
 
-  set_kept : (s : AtomSet) → clipped (min v.atoms 2080) (below_or_none v.atoms (members s)) ≡ below_or_none v.atoms (members s)
-  set_kept s = clipped_within (min v.atoms 2080) (below_or_none v.atoms (members s)) (λ p h. let a = (below_in v.atoms s p h).0 in let b = (below_in v.atoms s p h).1 in omega arith)
-
-  -- a set that the view holds is all there
-  all_in : (s : AtomSet) → Within v.atoms (members s) → below_or_none v.atoms (members s) ≡ members s
-  all_in s h = cond-true _ _ _ (inside_from 64 (members s) (first v.atoms) (λ p l e. lt-ltb p v.atoms (h p e)))
+  set_kept : (s : AtomSet) → Within v.atoms (members s) → clipped (min v.atoms 2080) (members s) ≡ members s
+  set_kept s h = clipped_within (min v.atoms 2080) (members s) (λ p e. let a = h p e in let b = within_members s p e in omega arith)
 
   pub view_start : (view_task v).start ≡ members v.start
   unfolding view_task
-  view_start = set_kept v.start ∙ all_in v.start v.start_in
+  view_start = set_kept v.start v.start_in
 
   pub view_goal : (view_task v).goal ≡ members v.goal
   unfolding view_task
-  view_goal = set_kept v.goal ∙ all_in v.goal v.goal_in
+  view_goal = set_kept v.goal v.goal_in
 
   module _ (few : v.atoms < 256) where
     same_atoms_count : min v.atoms 2080 ≡ v.atoms
@@ -89,7 +76,7 @@ module _ (v : FileView) where
     view_action : (a : ℕ) (x : Action) → a < v.actions → (raw v).action a ≡ x → SoundAction v.atoms x → (view_task v).action a ≡ x
     unfolding view_task
     view_action a x l e s =
-        cond-true _ _ _ (lt-ltb a (min (min v.actions 256) 16640) (let h = v.few in omega arith))
+        cond-true _ _ _ (lt-ltb a (min v.actions 16640) (let h = v.few in omega arith))
         ∙ (ap (trimmed_action (min v.atoms 2080)) e ∙ (ap (λ n. trimmed_action n x) same_atoms_count ∙ trimmed_same v.atoms x s))
 
     -- what reading the record of an action shows
@@ -147,8 +134,8 @@ unfolding view_task
 view_within v (Needs a) = (action_within _ _ _).0
 view_within v (Adds a) = (action_within _ _ _).1
 view_within v (Removes a) = (action_within _ _ _).2
-view_within v Start = λ p h. (below_in v.atoms v.start p (clipped_part (min v.atoms 2080) (below_or_none v.atoms (members v.start)) p h)).1
-view_within v Goal = λ p h. (below_in v.atoms v.goal p (clipped_part (min v.atoms 2080) (below_or_none v.atoms (members v.goal)) p h)).1
+view_within v Start = λ p h. within_members v.start p (clipped_part (min v.atoms 2080) (members v.start) p h)
+view_within v Goal = λ p h. within_members v.goal p (clipped_part (min v.atoms 2080) (members v.goal) p h)
 
 pub view_held : (v : FileView) (x : Part) → clipped 64 (part_of (view_task v) x) ≡ part_of (view_task v) x
 view_held v x = clipped_within 64 (part_of (view_task v) x) (view_within v x)

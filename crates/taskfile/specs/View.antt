@@ -1,6 +1,5 @@
 -- The task that a view of a file means.
-use Rattle.std.specs.Prelude.{ℕ, min, cond, List, length, drop, Some, Ok, Err, Result, slice_index}
-use Rattle.strips.specs.Sets.{Atoms, nothing, first, inside}
+use Rattle.std.specs.Prelude.{ℕ, List, length, drop, Some, Ok, Err, Result, slice_index}
 use Rattle.strips.specs.Task.{Action, Task, Sound, no_action}
 use Rattle.strips.specs.Bits.{members}
 use Rattle.strips.specs.Soundness.{trimmed, trimmed_sound}
@@ -14,18 +13,14 @@ abbrev pub action_or_none : Result (Entry × List ℕ) Fault → Action
 action_or_none (Ok x) = entry_action x.0
 action_or_none (Err f) = no_action
 
--- a set whose atoms are all below n
-abbrev pub below_or_none : ℕ → Atoms → Atoms
-below_or_none n A = cond (inside 64 A (first n)) A nothing
-
--- the task by the view's fields: an action's record stands at its place, and there are 256 places
+-- the task by the view's fields: an action's record stands at its place
 abbrev pub raw : FileView → Task
 raw v = record {
   atoms = v.atoms;
-  actions = min v.actions 256;
+  actions = v.actions;
   action = λ a. action_or_none (entry v.atoms (length v.records.now) (Some a) (drop (slice_index v.places a) v.records.now));
-  start = below_or_none v.atoms (members v.start);
-  goal = below_or_none v.atoms (members v.goal);
+  start = members v.start;
+  goal = members v.goal;
 }
 
 -- a view that opening a file made has nothing to trim

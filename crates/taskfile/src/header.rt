@@ -1,8 +1,10 @@
 //! The header of a file.
-ghost use Rattle.std.specs.Prelude.{◌≡◌, ◌+◌, ◌*◌, ◌<◌, ◌≤◌, length, IfOk, None, Ok, Err, MatchResult};
+ghost use Rattle.std.specs.Prelude.{◌≡◌, ℕ, ◌+◌, ◌*◌, ◌<◌, ◌≤◌, length, IfOk, None, Ok, Err, MatchResult};
+ghost use Rattle.strips.specs.Bits.{bit};
 ghost use Rattle.taskfile.specs.Reading.{fault, header};
 
 use crate::fault::Fault;
+use crate::reader::brings;
 use strips::Denial;
 
 /// The only version.
@@ -22,7 +24,8 @@ const MAPS: u8 = 4;
 pub(crate) struct Header {
     pub atoms: u8,
     pub actions: usize,
-    pub map: u8,
+    pub has_start: bool,
+    pub has_goal: bool,
     ghost few: { actions ≤ 256 },
 }
 
@@ -61,7 +64,7 @@ fn cut_short(bytes: &[u8]) -> Fault
 
 /// The header, taken apart, and the bytes after it.
 pub(crate) fn read_header(bytes: &[u8]) -> Result<(Header, &[u8]), Fault>
-    ensures reads { MatchResult result (λ x. header (length bytes.now) bytes.now ≡ Ok ((x.0.atoms, x.0.actions, x.0.map), x.1.now)) (λ f. header (length bytes.now) bytes.now ≡ Err f) }
+    ensures reads { MatchResult result (λ x. (map : ℕ) × (header (length bytes.now) bytes.now ≡ Ok ((x.0.atoms, x.0.actions, map), x.1.now)) × (x.0.has_start ≡ bit 0 map) × (x.0.has_goal ≡ bit 1 map)) (λ f. header (length bytes.now) bytes.now ≡ Err f) }
     ensures within { IfOk result (λ x. length x.1.now ≤ length bytes.now) }
 {
     let [version, atoms, high, low, map, rest @ ..] = bytes else {
@@ -84,7 +87,8 @@ pub(crate) fn read_header(bytes: &[u8]) -> Result<(Header, &[u8]), Fault>
         Header {
             atoms: *atoms,
             actions,
-            map: *map,
+            has_start: brings(*map, 0),
+            has_goal: brings(*map, 1),
         },
         rest,
     ))

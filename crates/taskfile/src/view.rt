@@ -5,7 +5,7 @@ ghost use Rattle.strips.specs.Sets.{Within};
 
 use crate::fault::Fault;
 use crate::header::{ACTIONS, read_header};
-use crate::reader::{Reader, brings};
+use crate::reader::Reader;
 use strips::{AtomSet, Part, Row, Task};
 
 /// A file that was read through: its header, its records, and where each record begins.
@@ -40,8 +40,8 @@ impl<'a> FileView<'a> {
             action: None,
             rest,
         };
-        let start = reader.set(brings(header.map, 0))?;
-        let goal = reader.set(brings(header.map, 1))?;
+        let start = reader.set(header.has_start)?;
+        let goal = reader.set(header.has_goal)?;
         let records = reader.rest;
         let places = reader.records(header.actions)?;
         reader.finish()?;

@@ -17,6 +17,6 @@ returns-then-map-ge-MAPS c = record { reads = at_map c.args.bytes.now (search ru
 
 pub returns : goal.returns
 returns c = record {
-  reads = at_right c.args.bytes.now c.action_count-actions.result _ (search rules) (search rules) (search rules) c.action_count-actions.ensures (search rules) (search rules) (take_rest c.args.bytes.now 5);
+  reads = (_, at_right c.args.bytes.now c.action_count-actions.result _ (search rules) (search rules) (search rules) c.action_count-actions.ensures (search rules) (search rules) (take_rest c.args.bytes.now 5), c.brings.ensures, c.brings-2.ensures);
   within = search rules;
 }
