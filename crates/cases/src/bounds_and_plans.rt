@@ -11,8 +11,8 @@ use strips::{Closed, Closures, Denial, Part, RowTable, Task};
 
 fn check_bound<T: Task>(rt: &impl Abort, task: &T, order: usize, bound: Option<u32>) {
     let mut table = CostTable::new();
-    assert!(rt; direct_bound(&mut table, task, order) == Ok(bound));
-    assert!(rt; compiled_bound(&mut table, task, order) == Ok(bound));
+    assert_eq!(rt; direct_bound(&mut table, task, order), Ok(bound));
+    assert_eq!(rt; compiled_bound(&mut table, task, order), Ok(bound));
 }
 
 #[test]
@@ -21,7 +21,7 @@ fn bounds(rt: HostRuntime) -> Result<(), Fail> {
     check_bound(&rt, &task, 1, Some(6));
     check_bound(&rt, &task, 2, Some(13));
     let mut closures = Closures::none();
-    assert!(rt; closures.mark(1, true) == Ok(()));
+    assert_eq!(rt; closures.mark(1, true), Ok(()));
     let Ok(closed) = Closed::new(&task, closures) else {
         return Err(Fail::new("not closed"));
     };
@@ -30,7 +30,10 @@ fn bounds(rt: HostRuntime) -> Result<(), Fail> {
     let empty = zero_loop();
     check_bound(&rt, &empty, 1, None);
     check_bound(&rt, &empty, 2, None);
-    assert!(rt; direct_bound(&mut CostTable::new(), &task, 3) == Err(Denial::OrderUnknown));
+    assert_eq!(rt;
+        direct_bound(&mut CostTable::new(), &task, 3),
+        Err(Denial::OrderUnknown)
+    );
     Ok(())
 }
 
@@ -73,13 +76,25 @@ fn tells(
 fn plans(rt: HostRuntime) {
     let task = shuttle();
     let told = Ok(Some((4, 13, 6)));
-    assert!(rt; tells(&task, &mut Direct::new(2), 6, 4) == told);
-    assert!(rt; tells(&task, &mut ByCompiling::new(2), 6, 4) == told);
-    assert!(rt; tells(&task, &mut Direct::new(2), 5, 4) == Err(Denial::PlacesSpent));
-    assert!(rt; tells(&task, &mut Direct::new(2), 0, 4) == Err(Denial::PlacesSpent));
-    assert!(rt; tells(&task, &mut Direct::new(2), 6, 3) == Err(Denial::DoesNotFit));
-    assert!(rt; tells(&task, &mut Direct::new(3), 6, 4) == Err(Denial::OrderUnknown));
-    assert!(rt; tells(&task, &mut Blind, 8, 8) == told);
+    assert_eq!(rt; tells(&task, &mut Direct::new(2), 6, 4), told);
+    assert_eq!(rt; tells(&task, &mut ByCompiling::new(2), 6, 4), told);
+    assert_eq!(rt;
+        tells(&task, &mut Direct::new(2), 5, 4),
+        Err(Denial::PlacesSpent)
+    );
+    assert_eq!(rt;
+        tells(&task, &mut Direct::new(2), 0, 4),
+        Err(Denial::PlacesSpent)
+    );
+    assert_eq!(rt;
+        tells(&task, &mut Direct::new(2), 6, 3),
+        Err(Denial::DoesNotFit)
+    );
+    assert_eq!(rt;
+        tells(&task, &mut Direct::new(3), 6, 4),
+        Err(Denial::OrderUnknown)
+    );
+    assert_eq!(rt; tells(&task, &mut Blind, 8, 8), told);
 }
 
 #[test]

@@ -23,18 +23,30 @@ fn numbers(rt: HostRuntime) {
         (Denial::PlacesSpent, 16),
         (Denial::DoesNotFit, 17),
     ] {
-        assert_eq!(rt; denial as u8, number);
+        assert_eq!(rt; u8::from(denial), number);
     }
 }
 
 #[test]
 fn rows(rt: HostRuntime) {
     let mut task = shuttle();
-    assert!(rt; task.clear(65, 1) == Err(Denial::SizeOutOfRange));
-    assert!(rt; task.set_row(4, row(16, 1, 1, 0)) == Err(Denial::NoSuchNumber));
-    assert!(rt; task.set_row(3, row(16, 1, 1, 0)) == Err(Denial::AtomOutOfRange));
-    assert!(rt; task.set_row(3, row(1, 1, 1, 0)) == Err(Denial::AddedAndRemoved));
-    assert!(rt; task.set_goal(AtomSet::from_bits(16)) == Err(Denial::AtomOutOfRange));
+    assert_eq!(rt; task.clear(65, 1), Err(Denial::SizeOutOfRange));
+    assert_eq!(rt;
+        task.set_row(4, row(16, 1, 1, 0)),
+        Err(Denial::NoSuchNumber)
+    );
+    assert_eq!(rt;
+        task.set_row(3, row(16, 1, 1, 0)),
+        Err(Denial::AtomOutOfRange)
+    );
+    assert_eq!(rt;
+        task.set_row(3, row(1, 1, 1, 0)),
+        Err(Denial::AddedAndRemoved)
+    );
+    assert_eq!(rt;
+        task.set_goal(AtomSet::from_bits(16)),
+        Err(Denial::AtomOutOfRange)
+    );
     assert_eq!(rt; task.cost(3), 1);
     assert_eq!(rt; task.cost(4), 0);
     assert!(rt; task.needs(3, 2) && !task.needs(3, 64));
@@ -44,12 +56,16 @@ fn rows(rt: HostRuntime) {
 fn layers(rt: HostRuntime) {
     let task = shuttle();
     let mut closures = Closures::none();
-    assert!(rt; closures.mark(4, true) == Ok(()));
-    assert!(rt; closures.mark(256, true) == Err(Denial::NoSuchNumber));
-    assert!(rt; Closed::new(&task, closures).err() == Some(Denial::NoSuchNumber));
+    assert_eq!(rt; closures.mark(4, true), Ok(()));
+    assert_eq!(rt; closures.mark(256, true), Err(Denial::NoSuchNumber));
+    assert_eq!(rt;
+        Closed::new(&task, closures).err(),
+        Some(Denial::NoSuchNumber)
+    );
     let start = AtomSet::from_bits(8);
     assert!(rt; Errand::new(&task, start, AtomSet::from_bits(1)).is_ok());
-    assert!(rt;
-        Errand::new(&task, start, AtomSet::from_bits(16)).err() == Some(Denial::AtomOutOfRange)
+    assert_eq!(rt;
+        Errand::new(&task, start, AtomSet::from_bits(16)).err(),
+        Some(Denial::AtomOutOfRange)
     );
 }

@@ -5,7 +5,7 @@ use taskfile::Fault;
 
 /// The number of a refusal.
 pub(crate) fn number(denial: Denial) -> u32 {
-    u32::from(denial as u8)
+    u32::from(u8::from(denial))
 }
 
 /// Tells numbers at the front of a lent slice, where they fit.

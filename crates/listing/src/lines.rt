@@ -48,7 +48,7 @@ impl fmt::Display for PlanLine<'_> {
                 Ok(())
             }
             PlanLine::Nothing => write!(f, "plan none"),
-            PlanLine::Refused(denial) => write!(f, "plan refused {}", *denial as u8),
+            PlanLine::Refused(denial) => write!(f, "plan refused {}", u8::from(*denial)),
         }
     }
 }
@@ -100,6 +100,6 @@ impl From<Denial> for RefusedLine {
 
 impl fmt::Display for RefusedLine {
     fn fmt<W: fmt::Write>(&self, f: &mut fmt::Formatter<W>) -> fmt::Result {
-        write!(f, "refused {} {}", self.denial as u8, self.place)
+        write!(f, "refused {} {}", u8::from(self.denial), self.place)
     }
 }
