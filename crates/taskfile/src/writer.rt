@@ -50,6 +50,7 @@ fn put_file<T: Task>(task: &T, out: &mut [u8])
 {
     let start = set_field(task.set_of(Part::Start));
     let goal = set_field(task.set_of(Part::Goal));
+    // The casts keep both numbers, which are small: a `try_from` would have an error that cannot come.
     let [high, low] = (task.actions() as u16).to_be_bytes();
     let map = flag(start) + 2 * flag(goal);
     let header = [VERSION, task.atoms() as u8, high, low, map];
