@@ -30,7 +30,7 @@ impl fmt::Display for BoundLine {
 }
 
 /// The plan, that there is none, or why it was refused.
-#[derive(Clone, Copy, PartialEq, Eq)]
+#[derive(Clone, Copy, Debug, PartialEq, Eq)]
 pub enum PlanLine<'a> {
     Found(u32, &'a [u16]),
     Nothing,

@@ -5,7 +5,7 @@ ghost use Rattle.search.specs.Places.{is_open};
 use strips::{AtomSet, Denial};
 
 /// A state that the search has come to.
-#[derive(Clone, Copy, PartialEq, Eq)]
+#[derive(Clone, Copy, Debug, PartialEq, Eq)]
 pub struct Place {
     pub state: AtomSet,
     /// What the way to it costs.
@@ -78,7 +78,7 @@ pub enum Answer {
 }
 
 /// Why a search was refused; where no place was left, with the places used.
-#[derive(Clone, Copy, PartialEq, Eq)]
+#[derive(Clone, Copy, Debug, PartialEq, Eq)]
 pub struct Refused {
     pub denial: Denial,
     pub used: Option<usize>,

@@ -2,7 +2,7 @@
 use strips::Denial;
 
 /// Why a file is refused, the byte where that is told, and the action whose record it is in.
-#[derive(Clone, Copy, PartialEq, Eq)]
+#[derive(Clone, Copy, Debug, PartialEq, Eq)]
 pub struct Fault {
     pub denial: Denial,
     pub place: usize,
