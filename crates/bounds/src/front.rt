@@ -7,7 +7,8 @@ use crate::readers::{BLOCK, BLOCKS, Readers};
 use crate::table::reached;
 use strips::{AtomSet, Part, Row, RowTable, Task};
 
-/// The actions to look at once sets are settled: all of them, or those that need an atom of a set.
+/// The actions to look at once sets are settled: all of them, or those that need an atom of a set. As an `Option` the `None`
+/// would stand for all of them.
 #[derive(Clone, Copy)]
 pub(crate) enum ToLookAt {
     All,

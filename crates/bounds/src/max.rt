@@ -111,7 +111,8 @@ impl<T: Task> AtomCosts<'_, T> {
         self.lower_part(Part::Adds(action), cost)
     }
 
-    /// The first round, which looks at every action.
+    /// The first round, which looks at every action. One function of both rounds would need a test to pass, and would be no
+    /// plainer.
     fn first_round(&mut self, seen: &mut [Dearest]) {
         for (action, dearest) in seen.iter_mut().enumerate() {
             self.look_at(action, dearest);

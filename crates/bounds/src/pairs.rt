@@ -157,6 +157,7 @@ impl Front for Pairs<'_> {
     fn settle(&mut self, now: u32) -> ToLookAt {
         let single = self.single;
         let mut changed = AtomSet::EMPTY;
+        // by number, since settling a row enters its atoms in other rows too
         for high in 0..self.costs.atoms() {
             if self.rows[high].least <= now {
                 changed = changed.joined(self.settle_row(high, now));

@@ -68,7 +68,7 @@ pub(crate) struct Way {
     pub(crate) action: u16,
 }
 
-/// What a search tells.
+/// What a search tells. With an `Option` inside, the places used would stand beside it and in the tuple.
 #[derive(Clone, Copy, Debug, PartialEq, Eq)]
 pub enum Answer {
     /// A cheapest plan: its length, its cost and the places used.

@@ -12,7 +12,7 @@ pub(crate) const COST: u16 = 1;
 /// A record's map is below this: it has four bits.
 const MAPS: u8 = 16;
 
-/// Whether the map brings the field of bit i.
+/// Whether the map brings the field of bit i. A map is a byte of the format, and flags by name would only rename its bits.
 pub(crate) fn brings(map: u8, i: u8) -> bool
     requires { i < 8 }
     ensures { result ≡ bit i map }
