@@ -4,7 +4,6 @@
 mod direct;
 mod front;
 mod max;
-mod numbers;
 mod order;
 mod pairs;
 mod readers;
@@ -13,7 +12,7 @@ mod singles;
 mod table;
 
 pub use direct::direct_bound;
+pub use heuristics::numbers_closed;
 pub use max::max_bound;
-pub use numbers::numbers_closed;
 pub use order::Order;
 pub use table::{CostTable, NONE};
