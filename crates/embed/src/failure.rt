@@ -8,7 +8,8 @@ pub(crate) fn number(denial: Denial) -> u32 {
     u32::from(u8::from(denial))
 }
 
-/// Tells numbers at the front of a lent slice, where they fit.
+/// Tells numbers at the front of a lent slice, where they fit. What is told is made of sizes by `as`, since no `From` leads from
+/// a `usize` to a `u64`.
 fn tell<const N: usize>(told: &mut [u64], numbers: [u64; N]) {
     if let Some(front) = told.first_chunk_mut() {
         *front = numbers;

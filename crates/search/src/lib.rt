@@ -36,11 +36,13 @@ fn turns<E: Estimator>(
                 continue 'actions;
             }
             let state = from.state.without(row.removes).joined(row.adds);
+            // by `as`, since there are fewer than 2^16 places and actions
             let way = Way {
                 paid: from.paid.saturating_add(u32::from(row.cost)),
                 parent: chosen as u16,
                 action: action as u16,
             };
+            // this look-up yields the place by `break` on purpose: docs/DECISIONS.md, forms by place
             let known = table.states();
             let mut at = 0;
             let place = loop {

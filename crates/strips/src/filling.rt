@@ -81,7 +81,8 @@ impl RowTable {
         Ok(())
     }
 
-    /// Sets the goal.
+    /// Sets the goal. Start and goal differ in the field alone: one call for both would take a part of a task, and would have to
+    /// refuse the sets of an action.
     pub fn set_goal(&mut self, goal: AtomSet) -> Result<(), Denial>
         ensures { MatchResult result
             (λ _. (set_denied (table_task self.old) (members goal) ≡ None) × (table_task self.new ≡ with_goal (table_task self.old) (members goal)))

@@ -1,4 +1,5 @@
-//! Numbers of 64 bits as sets of atoms: bit p stands for the atom p.
+//! Numbers of 64 bits as sets of atoms: bit p stands for the atom p. Each operation has a function here beside the method of
+//! `AtomSet` that calls it, so that hardly a proof above this file meets a bit.
 ghost use Rattle.std.specs.Prelude.{◌≡◌, ℕ, ◌<◌, MatchOption};
 ghost use Rattle.strips.specs.Sets.{nothing, joined, common, without, clipped, first, plus, inside, meets};
 ghost use Rattle.strips.specs.Bits.{bits_of};
@@ -20,6 +21,7 @@ pub(crate) fn next_bit(a: u64, from: usize) -> Option<usize>
     if rest == 0 {
         return None;
     }
+    // `as`, here and below, since no `From` leads from a `u32` to a `usize`
     Some(from + rest.trailing_zeros() as usize)
 }
 

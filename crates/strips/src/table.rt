@@ -13,6 +13,7 @@ pub struct RowTable {
     pub(crate) actions: usize,
     pub(crate) start: AtomSet,
     pub(crate) goal: AtomSet,
+    /// As many as there can be, since nothing is allocated; the first `actions` of them count.
     pub(crate) rows: [Row; 256],
     ghost few_atoms: { atoms ≤ 64 },
     ghost few_actions: { actions ≤ 256 },

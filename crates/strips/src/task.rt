@@ -83,6 +83,7 @@ pub trait Task {
             let Some(atom) = self.next_of(part, at) else {
                 return &buffer[..count];
             };
+            // no task has an atom that does not fit, so there is no error that `try_from` could tell
             *place = atom as u16;
             at = atom + 1;
         }

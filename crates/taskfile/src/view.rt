@@ -16,6 +16,7 @@ pub struct FileView<'a> {
     start: AtomSet,
     goal: AtomSet,
     records: &'a [u8],
+    /// As many as there can be, since nothing is allocated; the first `actions` of them count.
     places: [usize; ACTIONS],
     ghost few: { actions ≤ 256 },
     ghost start_in: { Within atoms (members start) },

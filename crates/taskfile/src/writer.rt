@@ -9,7 +9,8 @@ use crate::header::VERSION;
 use crate::put::{flag, put, put_row, row_size, set_field, size};
 use strips::{Denial, Part, Task, is_small};
 
-// How many bytes the records have.
+// How many bytes the records have. Here and below the number of actions is asked to be small, as `write` has tested: a type for
+// a small task would be made and taken apart within that one call.
 fn records_size<T: Task>(task: &T) -> usize
     requires { (T.Task.meaning task.now).actions ≤ 256 }
     ensures is { result ≡ length (flat_map entry_bytes (content_of (T.Task.meaning task.now)).entries) }
