@@ -8,6 +8,7 @@ use strips::{Part, Task};
 const BATCH: usize = 16;
 
 /// More rounds than there are atoms: each round but the last lowers an atom's cost for good. There are fewer batches too.
+/// A loop without a count would need this as its measure, and would be no plainer.
 const ROUNDS: usize = 2081;
 
 const MOST_ACTIONS: usize = 16640;

@@ -22,6 +22,7 @@ fn count(set: AtomSet) -> usize
     ensures count { result ≡ length (rising 64 (members set)) }
     ensures few { result ≤ 64 }
 {
+    // by `as`, since no `From` leads from a `u32` to a `usize`
     set.bits().count_ones() as usize
 }
 
