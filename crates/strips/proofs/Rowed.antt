@@ -1,8 +1,6 @@
 -- Tables of rows, as they are made and after one row is set.
 use Rattle.std.proofs.Common.{◌≡◌, ℕ, zero, suc, ◌+◌, ◌<◌, ◌≤◌, Bool, true, false, cond, ltb, ◌⊎◌, List, length, get_or, set, replicate, sym, refl, ap, ◌∙◌, subst, inl, inr, ⊎_elim, true≢false, arith, get_or-set_other, get_or-set_same, ltb-false, ltb-true}
 use lib.ListN.{get_or-replicate, length-replicate}
-use denote.Param.Members.{Mut, Called}
-use Rattle.std.specs.Array.{IsFromFnResultFrom}
 use Rattle.std.proofs.lemmas.Bool.{cases_lt, cases_eq, cases_Bool}
 use Rattle.std.proofs.lemmas.List.{get_or_past}
 use Rattle.strips.specs.Sets.{Atoms, nothing, clipped, meets, Within, Apart}
@@ -80,14 +78,13 @@ row_whole t s l a r e = e ∙ clipped_small t.atoms (t.action a) l (s.each a)
 pub set_whole : (n : ℕ) (A : Atoms) → n ≤ 64 → Within n A → (x : AtomSet) → members x ≡ clipped 64 A → members x ≡ A
 set_whole n A l h x e = e ∙ clipped_within 64 A (λ p f. let k = h p f in omega arith)
 
--- rows that one closure makes, which each call leaves as it was: what holds of each call's row holds of each row
-pub made_each : {F : Type 0} (g : Mut F (ℕ × Unit {0}) Row) (P : ℕ → Row → Type 0) (f : F) (rows : List Row) → ((a : ℕ) (r : Row) (q : F) → Called g f (a, tt) r q → (q ≡ f) × P a r) →
-    (i n : ℕ) → IsFromFnResultFrom g f rows i n → (a : ℕ) → i ≤ a → a < i + n → P a (get_or rows a no_row)
-made_each g P f rows h i zero e a l k = let z : ⊥ = omega arith in absurd z
-made_each g P f rows h i (suc n) (q, r, at, call, rest) a l k =
+-- one row more
+pub copied_more : (t : Task) (rows : List Row) (i : ℕ) (r : Row) → i < length rows → row_action r ≡ t.action i →
+    ((a : ℕ) → a < i → row_action (get_or rows a no_row) ≡ t.action a) → (a : ℕ) → a < i + 1 → row_action (get_or (set rows i r) a no_row) ≡ t.action a
+copied_more t rows i r l e f a h =
     ⊎_elim
-    (λ e. subst (λ b. P b (get_or rows b no_row)) (sym e) (subst (P i) (sym (at.1 no_row)) (h i r q call).1))
-    (λ e. made_each g P f rows h (i + 1) n (subst (λ z. IsFromFnResultFrom g z rows (i + 1) n) (h i r q call).0 rest) a (omega arith) (omega arith))
+    (λ q. ap row_action (ap (λ n. get_or (set rows i r) n no_row) q ∙ get_or-set_same rows i r no_row l) ∙ (e ∙ ap t.action (sym q)))
+    (λ q. ap row_action (get_or-set_other rows i a r no_row q) ∙ f a (omega arith))
     (cases_eq a i)
 
 -- 256 rows that stand for a small task's actions, and what is read past them

@@ -5,14 +5,18 @@ ghost use Rattle.strips.specs.Rows.{row_action, no_row};
 ghost use Rattle.strips.specs.Table.{table_task, copy_denied};
 
 use crate::{Denial, Part, Row, RowTable, Task, is_small};
-use std::array;
 
 /// The rows of a task's actions.
 fn rows_of<T: Task>(task: &T) -> [Row; 256]
     requires { small (T.Task.meaning task.now) ≡ true }
     ensures { (a : ℕ) → row_action (slice_index_or result a no_row) ≡ (T.Task.meaning task.now).action a }
 {
-    array::from_fn(|action| task.row(action))
+    // a loop, since `array::from_fn` clears and copies the rows several times, and a bound over atoms then takes a third longer
+    let mut rows = [Row::NONE; 256];
+    for (action, row) in rows.iter_mut().enumerate() {
+        *row = task.row(action);
+    }
+    rows
 }
 
 impl RowTable {
