@@ -20,14 +20,14 @@ where
     F: FnMut(&[u16]) -> ControlFlow<()>,
     requires { F.IsAlwaysCallable visit }
 {
-    let mut buffer = [0u16; BATCH];
+    let mut list = [0u16; BATCH];
     let mut from = 0;
     for _ in 0..ROUNDS {
-        let batch = task.list_of(part, from, &mut buffer);
-        if visit(batch).is_break() || batch.len() < BATCH {
+        let count = task.list_of(part, from, &mut list);
+        if visit(&list[..count]).is_break() || count < BATCH {
             break;
         }
-        from = usize::from(batch[BATCH - 1]) + 1;
+        from = usize::from(list[BATCH - 1]) + 1;
     }
 }
 

@@ -33,12 +33,11 @@ fn answer<const N: usize>(told: &mut [u64; N], outcome: Result<[u64; N], Failure
     }
 }
 
-/// Reads a file into a row table.
-fn read(file: &[u8]) -> Result<RowTable, Failure> {
+/// Reads a file into a row table. The table is lent, since one that is handed out is copied several times on the way.
+fn read(file: &[u8], task: &mut RowTable) -> Result<(), Failure> {
     let view = FileView::open(file)?;
-    let mut rows = RowTable::new();
-    rows.copy_from(&view)?;
-    Ok(rows)
+    task.copy_from(&view)?;
+    Ok(())
 }
 
 /// The numbers of atoms and actions of a file.
@@ -57,7 +56,8 @@ pub fn shelfline_check(file: &[u8], told: &mut [u64]) -> u32 {
 
 /// 1 and the bound from a file's start, or twice 0 where it is none.
 fn bound(file: &[u8], way: u32, order: u32) -> Result<[u64; 2], Failure> {
-    let task = read(file)?;
+    let mut task = RowTable::new();
+    read(file, &mut task)?;
     let bound = Way::try_from(way)?.bound(&task, order as usize)?;
     Ok(bound.map_or([0, 0], |bound| [1, u64::from(bound)]))
 }
@@ -78,7 +78,8 @@ fn search(
     places: u32,
     plan: &mut [u16],
 ) -> Result<[u64; 4], Failure> {
-    let task = read(file)?;
+    let mut task = RowTable::new();
+    read(file, &mut task)?;
     let estimator = Estimator::try_from(estimator)?;
     let mut table = [Place::EMPTY; MOST_PLACES];
     let room = (places as usize).min(MOST_PLACES);

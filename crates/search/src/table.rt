@@ -53,7 +53,7 @@ impl<'a> Table<'a> {
     pub(crate) fn choose(&self) -> Option<usize>
         ensures { IfSome result (IsOpen self.now) }
     {
-        // a loop, since `filter` and `min_by_key` take half as long again and each turn passes over all places
+        // a loop, since `filter` and `min_by_key` take at least twice as long and each turn passes over all places
         let mut best = None;
         let mut least = u64::MAX;
         for (at, place) in self.in_use().iter().enumerate() {

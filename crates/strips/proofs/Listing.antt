@@ -1,7 +1,6 @@
 -- Listing the atoms of a set one after another.
-use Rattle.std.proofs.Common.{◌≡◌, ℕ, ◌+◌, ◌<◌, ◌≤◌, true, false, ◌≢◌, List, length, take, get_or, set, sym, ap, ◌∙◌, inl, inr, ⊎_elim, true≢false, arith, get_or-set_other, get_or-set_same}
+use Rattle.std.proofs.Common.{◌≡◌, ℕ, ◌+◌, ◌<◌, ◌≤◌, true, false, ◌≢◌, List, length, get_or, set, sym, ap, ◌∙◌, inl, inr, ⊎_elim, true≢false, arith, get_or-set_other, get_or-set_same}
 use Rattle.std.proofs.lemmas.Bool.{cases_lt, cases_eq}
-use Rattle.std.proofs.lemmas.List.{get_or-take, length-take-le}
 use Rattle.strips.specs.Sets.{Atoms}
 use Rattle.strips.specs.Parts.{Listed}
 
@@ -65,26 +64,20 @@ listed_more A from at count list q h k len le e first = record {
     wider : (p : ℕ) → (i : ℕ) × (i < count) × (get_or list i 0 ≡ p) → (i : ℕ) × (i < count + 1) × (get_or (set list count q) i 0 ≡ p)
     wider p w = let l : w.0 < count = w.1 in (w.0, omega arith, here w.0 w.1 ∙ w.2)
 
--- where no atom is left, what is listed is the whole
-pub listed_end : (A : Atoms) (from at count : ℕ) (list : List ℕ) → ListedTo A from at count list → length list ≡ 16 → ((p : ℕ) → at ≤ p → A p ≡ false) → Listed A from (length (take count list)) (take count list)
-listed_end A from at count list h long past = record {
-  few = let f = h.few in omega (arith, n);
-  each = λ i l. let w = h.each i (omega (arith, n)) in let e = here i (omega (arith, n)) in let b : from ≤ get_or list i 0 = w.0 in (omega arith, ap A e ∙ w.1);
-  rising = λ i j a l. let r = h.rising i j a (omega (arith, n)) in let e = here i (omega (arith, n)) in let f = here j (omega (arith, n)) in omega arith;
-  all = λ p a f. ⊎_elim (λ l. inl (let w = h.all p a l f in let b : w.0 < count = w.1 in (w.0, omega (arith, n), here w.0 w.1 ∙ w.2))) (λ l. absurd (true≢false (sym f ∙ past p l))) (cases_lt p at);
+-- where no atom is left, the list is whole
+pub listed_end : (A : Atoms) (from at count : ℕ) (list : List ℕ) → ListedTo A from at count list → ((p : ℕ) → at ≤ p → A p ≡ false) → Listed A from count list
+listed_end A from at count list h past = record {
+  few = h.few;
+  each = λ i l. ((h.each i l).0, (h.each i l).1);
+  rising = h.rising;
+  all = λ p a f. ⊎_elim (λ l. inl (h.all p a l f)) (λ l. absurd (true≢false (sym f ∙ past p l))) (cases_lt p at);
 }
-  where
-    n : length (take count list) ≡ count
-    n = length-take-le count list (let f = h.few in omega arith)
-
-    here : (i : ℕ) → i < count → get_or (take count list) i 0 ≡ get_or list i 0
-    here i l = get_or-take count list i 0 l
 
 -- where the list is full, what is missing lies past its last
-pub listed_full : (A : Atoms) (from at count : ℕ) (list : List ℕ) → ListedTo A from at count list → count ≡ 16 → length list ≡ 16 → Listed A from (length list) list
-listed_full A from at count list h e long = record {
-  few = omega arith;
-  each = λ i l. let w = h.each i (omega arith) in (w.0, w.1);
-  rising = λ i j a l. h.rising i j a (omega arith);
-  all = λ p a f. ⊎_elim (λ l. inl (let w = h.all p a l f in let b : w.0 < count = w.1 in (w.0, omega arith, w.2))) (λ l. inr (long, (let b : get_or list 15 0 < at = (h.each 15 (omega arith)).2 in omega arith))) (cases_lt p at);
+pub listed_full : (A : Atoms) (from at count : ℕ) (list : List ℕ) → ListedTo A from at count list → count ≡ 16 → Listed A from count list
+listed_full A from at count list h e = record {
+  few = h.few;
+  each = λ i l. ((h.each i l).0, (h.each i l).1);
+  rising = h.rising;
+  all = λ p a f. ⊎_elim (λ l. inl (h.all p a l f)) (λ l. inr (e, (let b : get_or list 15 0 < at = (h.each 15 (omega arith)).2 in omega arith))) (cases_lt p at);
 }

@@ -1,6 +1,6 @@
 -- Tasks made of a task.
 use Rattle.std.specs.Prelude.{ℕ, Bool, cond, ◌&&◌, Some, None, Option}
-use Rattle.strips.specs.Sets.{Atoms, nothing, first, inside}
+use Rattle.strips.specs.Sets.{Atoms, nothing, clipped, first, inside}
 use Rattle.strips.specs.Task.{Action, Task, small}
 use Rattle.strips.specs.declared.denial.Denial.{Denial}
 use Rattle.strips.specs.declared.denial.Denial.TheVariants.{AtomOutOfRange, NoSuchNumber, TaskOutOfRange}
@@ -8,6 +8,10 @@ use Rattle.strips.specs.declared.denial.Denial.TheVariants.{AtomOutOfRange, NoSu
 -- the task with another start and goal
 abbrev pub with_errand : Task → Atoms → Atoms → Task
 with_errand t s g = record { atoms = t.atoms; actions = t.actions; action = t.action; start = s; goal = g }
+
+-- the same, of whatever sets: their atoms that the task has
+abbrev pub errand_task : Task → Atoms → Atoms → Task
+errand_task t s g = with_errand t (clipped t.atoms s) (clipped t.atoms g)
 
 -- what an errand is refused for
 abbrev pub errand_denied : Task → Atoms → Atoms → Option Denial

@@ -5,7 +5,7 @@ use Rattle.std.proofs.Math.Nat.{min-le_right}
 use Rattle.std.proofs.lemmas.Bool.{and_parts}
 use Rattle.strips.specs.Sets.{Atoms, nothing, without, clipped, Within}
 use Rattle.strips.specs.Task.{Action, Task, Sound, SoundAction, no_action}
-use Rattle.strips.specs.Layers.{with_errand, with_closures, idle}
+use Rattle.strips.specs.Layers.{with_errand, errand_task, with_closures, idle}
 
 pub within_clipped : (n : ℕ) (A : Atoms) → Within n (clipped n A)
 within_clipped n A p h = ltb-true p n (and_parts (nat_lt p n) (A p) h).0
@@ -13,8 +13,8 @@ within_clipped n A p h = ltb-true p n (and_parts (nat_lt p n) (A p) h).0
 within_nothing : (n : ℕ) → Within n nothing
 within_nothing n p e = absurd (true≢false (sym e))
 
-pub errand_sound : (t : Task) → Sound t → (s g : Atoms) → Within t.atoms s → Within t.atoms g → Sound (with_errand t s g)
-errand_sound t h s g start_in goal_in = record {
+pub errand_within : (t : Task) → Sound t → (s g : Atoms) → Within t.atoms s → Within t.atoms g → Sound (with_errand t s g)
+errand_within t h s g start_in goal_in = record {
   atoms_in = h.atoms_in;
   actions_in = h.actions_in;
   each = h.each;
@@ -22,6 +22,9 @@ errand_sound t h s g start_in goal_in = record {
   start_in = start_in;
   goal_in = goal_in;
 }
+
+pub errand_sound : (t : Task) → Sound t → (s g : Atoms) → Sound (errand_task t s g)
+errand_sound t h s g = errand_within t h (clipped t.atoms s) (clipped t.atoms g) (within_clipped t.atoms s) (within_clipped t.atoms g)
 
 idle_sound : (n : ℕ) (a : Action) → SoundAction n a → SoundAction n (idle a)
 idle_sound n a h = record {

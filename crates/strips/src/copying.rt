@@ -11,7 +11,7 @@ fn rows_of<T: Task>(task: &T) -> [Row; 256]
     requires { small (T.Task.meaning task.now) ≡ true }
     ensures { (a : ℕ) → row_action (slice_index_or result a no_row) ≡ (T.Task.meaning task.now).action a }
 {
-    // a loop, since `array::from_fn` clears and copies the rows several times, and a bound over atoms then takes a third longer
+    // a loop, since `array::from_fn` clears and copies the rows several times, and a bound over atoms then takes an eighth longer
     let mut rows = [Row::NONE; 256];
     for (action, row) in rows.iter_mut().enumerate() {
         *row = task.row(action);

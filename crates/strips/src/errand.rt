@@ -3,7 +3,7 @@ ghost use Rattle.std.specs.Prelude.{◌≡◌, Some, None, MatchResult};
 ghost use Rattle.strips.specs.Sets.{Within};
 ghost use Rattle.strips.specs.Bits.{members};
 ghost use Rattle.strips.specs.Layers.{with_errand, errand_denied};
-ghost use Rattle.strips.specs.Soundness.{errand_sound};
+ghost use Rattle.strips.specs.Soundness.{errand_within};
 
 use crate::{AtomSet, Denial, Part, Row, Task, is_small};
 
@@ -39,7 +39,7 @@ impl<T: Task + Drop> Errand<T> {
 impl<T: Task> Task for Errand<T> {
     ghost meaning = { λ e. with_errand (T.Task.meaning e.task) (members e.start) (members e.goal) };
 
-    ghost sound = { λ e. errand_sound (T.Task.meaning e.task) (T.Task.sound e.task) (members e.start) (members e.goal) e.start_in e.goal_in };
+    ghost sound = { λ e. errand_within (T.Task.meaning e.task) (T.Task.sound e.task) (members e.start) (members e.goal) e.start_in e.goal_in };
 
     fn atoms(&self) -> usize {
         self.task.atoms()

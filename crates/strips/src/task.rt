@@ -1,5 +1,5 @@
 //! The task interface.
-ghost use Rattle.std.specs.Prelude.{◌≡◌, ℕ, ◌<◌, ◌≤◌, length};
+ghost use Rattle.std.specs.Prelude.{◌≡◌, ℕ, ◌<◌, ◌≤◌};
 ghost use Rattle.strips.specs.Task.{Task as Meaning, Sound, small};
 ghost use Rattle.strips.specs.Sets.{clipped};
 ghost use Rattle.strips.specs.Bits.{members};
@@ -73,21 +73,21 @@ pub trait Task {
         (from..self.atoms()).find(|&atom| self.holds(part, atom))
     }
 
-    /// Lists the first atoms at or after `from` of one of the task's sets at the front of a buffer, in rising order: all of
-    /// them, or as many as there is room for.
-    fn list_of<'a>(&self, part: Part, from: usize, buffer: &'a mut [u16; 16]) -> &'a [u16]
-        ensures { Listed (part_of (meaning self.now) part) from (length result.now) result.now }
+    /// Lists the first atoms at or after `from` of one of the task's sets, in rising order, and tells how many. It tells a count
+    /// and not a slice of the list, since nothing could then be said of the list after the call.
+    fn list_of(&self, part: Part, from: usize, list: &mut [u16; 16]) -> usize
+        ensures { Listed (part_of (meaning self.now) part) from result list.new }
     {
         let mut at = from;
-        for (count, place) in buffer.iter_mut().enumerate() {
+        for (count, place) in list.iter_mut().enumerate() {
             let Some(atom) = self.next_of(part, at) else {
-                return &buffer[..count];
+                return count;
             };
             // no task has an atom that does not fit, so there is no error that `try_from` could tell
             *place = atom as u16;
             at = atom + 1;
         }
-        buffer
+        list.len()
     }
 
     /// An action's sets, as `set_of` has them, and its cost.
@@ -160,8 +160,8 @@ impl<T: Task> Task for &T {
         (**self).next_of(part, from)
     }
 
-    fn list_of<'a>(&self, part: Part, from: usize, buffer: &'a mut [u16; 16]) -> &'a [u16] {
-        (**self).list_of(part, from, buffer)
+    fn list_of(&self, part: Part, from: usize, list: &mut [u16; 16]) -> usize {
+        (**self).list_of(part, from, list)
     }
 
     fn row(&self, action: usize) -> Row {

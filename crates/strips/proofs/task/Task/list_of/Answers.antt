@@ -1,9 +1,9 @@
-use Rattle.std.proofs.Common.{◌≡◌, ℕ, ◌<◌, true, arith}
-use Rattle.strips.specs.Parts.{part_of}
+use Rattle.std.proofs.Common.{◌≡◌, ℕ, ◌<◌, true, subst, arith}
+use Rattle.strips.specs.Parts.{part_of, Listed}
 use Rattle.strips.specs.Task.{Task, Sound}
 use Rattle.strips.specs.declared.part.Part.{Part}
 use Rattle.strips.proofs.Soundness.{part_within}
-use Rattle.strips.proofs.Listing.{listed_full}
+use Rattle.strips.proofs.Listing.{listed_none, listed_more, listed_end, listed_full}
 use Rattle.strips.proofs.task.Task.list_of.Goals as goal
 
 -- no task has an atom of 2080 or more
@@ -18,4 +18,6 @@ overflow_add-at g c = let l = low (g.Self.Task.meaning c.args.self.now) (g.Self.
 
 pub returns : goal.returns
 returns g c =
-    listed_full (part_of (g.Self.Task.meaning c.args.self.now) c.args.part) c.args.from c.loop-count.at c.loop-count.count c.loop-count.place-items c.loop-count.invariant (omega arith) (omega arith)
+    let A = part_of (g.Self.Task.meaning c.args.self.now) c.args.part in
+    let full : c.loop-count.count ≡ 16 = omega arith in
+    subst (λ n. Listed A c.args.from n c.loop-count.list) full (listed_full A c.args.from c.loop-count.at c.loop-count.count c.loop-count.list c.loop-count.invariant full)
