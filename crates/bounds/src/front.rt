@@ -17,8 +17,8 @@ pub(crate) enum ToLookAt {
 
 /// Sets of atoms and their costs: what is settled, and what is to come.
 pub(crate) trait Front {
-    /// More turns than there are sets: each turn but the last settles one. A loop without a count would need this as its
-    /// measure, and would be no plainer.
+    /// More turns than there are sets: each turn but the last settles one. A loop without a count would need the
+    /// proof of this, which is not there yet.
     const TURNS: usize;
 
     /// Looks at an action: where all it needs is settled, what it makes costs at most `now` and the action.

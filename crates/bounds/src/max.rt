@@ -1,6 +1,6 @@
 //! The bound over single atoms, on any task.
+use crate::CostTable;
 use crate::table::reached;
-use crate::{CostTable, NONE};
 use std::ops::ControlFlow;
 use strips::{Part, Task};
 
@@ -8,9 +8,10 @@ use strips::{Part, Task};
 const BATCH: usize = 16;
 
 /// More rounds than there are atoms: each round but the last lowers an atom's cost for good. There are fewer batches too.
-/// A loop without a count would need this as its measure, and would be no plainer.
+/// A loop without a count would need the proof of this, which is not there yet.
 const ROUNDS: usize = 2081;
 
+/// The most actions of a task.
 const MOST_ACTIONS: usize = 16640;
 
 /// Shows the atoms of a part of a task batch by batch, until `visit` breaks off.
@@ -82,7 +83,7 @@ impl<T: Task> AtomCosts<'_, T> {
         let mut dearest = Dearest::OF_NONE;
         for_each_batch(self.task, part, |batch| {
             dearest = dearest.or_of(self.table, batch);
-            if dearest.cost == NONE {
+            if reached(dearest.cost).is_none() {
                 ControlFlow::Break(())
             } else {
                 ControlFlow::Continue(())

@@ -59,7 +59,7 @@ impl<'a> Pairs<'a> {
         common
     }
 
-    /// Lowers the cost of the set of two atoms, or of one where they are the same.
+    /// Lowers the cost of the set of two atoms, or of one where they are the same. An atom is a plain number, as in `SetCosts`.
     fn lower(&mut self, p: usize, q: usize, cost: u32)
         requires { (p < 64) × (q < 64) }
     {

@@ -42,11 +42,13 @@ fn fields(rt: HostRuntime) {
     let set = b"\x01\x02\0\0\x01\0\0\0\0\0\0\0";
     assert_eq!(rt; fault(set), Some((Denial::FileEnds, 12, None)));
     assert_eq!(rt; fault(b"\x01\x02\0\0\x01\0\0\0\0\0\0\0\x03"), None);
-    assert!(rt;
-        fault(b"\x01\x02\0\0\x01\0\0\0\0\0\0\0\x04") == Some((Denial::AtomOutOfRange, 5, None))
+    assert_eq!(rt;
+        fault(b"\x01\x02\0\0\x01\0\0\0\0\0\0\0\x04"),
+        Some((Denial::AtomOutOfRange, 5, None))
     );
-    assert!(rt;
-        fault(b"\x01\x02\0\0\x01\0\0\0\0\0\0\0\0") == Some((Denial::FieldAtDefault, 5, None))
+    assert_eq!(rt;
+        fault(b"\x01\x02\0\0\x01\0\0\0\0\0\0\0\0"),
+        Some((Denial::FieldAtDefault, 5, None))
     );
     assert_eq!(rt; fault(b"\x01\0\0\x01\0\x08\0\0"), None);
     assert_eq!(rt;

@@ -1,8 +1,10 @@
 -- The compiled task's actions, one task action after another.
-use Rattle.std.proofs.Common.{◌≡◌, ℕ, zero, suc, ◌+◌, ◌-◌, ◌<◌, ◌≤◌, Bool, true, false, cond, not, ◌&&◌, ◌||◌, ltb, Some, List, [], ◌∷◌, ◌++◌, map, length, get_or, sym, refl, ap, ◌∙◌, subst, ⊎_elim, true≢false, add-one, arith, length-append, get_or-append-add, ltb-true, lt-ltb}
+use Rattle.std.proofs.Common.{fold, sum_by, ◌*◌, ◌≡◌, ℕ, zero, suc, ◌+◌, ◌-◌, ◌<◌, ◌≤◌, Bool, true, false, cond, not, ◌&&◌, ◌||◌, ltb, Some, List, [], ◌∷◌, ◌++◌, map, length, get_or, sym, refl, ap, ◌∙◌, subst, ⊎_elim, true≢false, add-one, arith, length-append, get_or-append-add, ltb-true, lt-ltb}
+use Rattle.std.specs.List.{range_with_len}
 use mathlib.Core.List.{map-append}
 use lib.ListN.{length-map, get_or-append}
 use Rattle.std.proofs.lemmas.List.{get_or-map}
+use Rattle.std.proofs.lemmas.List.FromFn.{sum_by-map-range_with_len_more}
 use Rattle.std.proofs.lemmas.Bool.{cases_lt, and_parts}
 use Rattle.strips.specs.Sets.{Atoms, nothing, plus, joined, without, first, clipped, meets, Within}
 use Rattle.strips.specs.Task.{Action, Task, Sound, no_action}
@@ -165,3 +167,47 @@ cargo_found xs zero p S z e s = absurd (z refl)
 cargo_found xs (suc j) p S z (l, e, f) s =
     let d : suc j - 1 ≡ j = omega arith in
     (omega arith, put_one p nothing S f refl s ∙ ap (λ q. plus q nothing) (sym e ∙ ap (λ i. get_or xs i 0) d))
+
+-- A SUM OVER THE ACTIONS ----------------------------------------------------
+
+sum_map : (h : ℕ → ℕ) (n : ℕ) (xs : List ℕ) → fold (λ s x. s + x) n (map h xs) ≡ fold (λ s x. s + h x) n xs
+sum_map h n [] = refl
+sum_map h n (x ∷ xs) = sum_map h (n + h x) xs
+
+sum_more : (h : ℕ → ℕ) (k : ℕ) → sum_by h (range_with_len 0 (k + 1)) ≡ sum_by h (range_with_len 0 k) + h k
+sum_more h k = sym (sum_map h 0 (range_with_len 0 (k + 1))) ∙ sum_by-map-range_with_len_more (λ x. x) h 0 k k (omega arith) ∙ ap (λ z. z + h k) (sum_map h 0 (range_with_len 0 k))
+
+-- how many actions the first k come to
+pub carriers_sum : (o : Order) (t : Task) → t.atoms ≤ 64 → (k : ℕ) → sum_by (λ a. length (extras_of o t a) + 1) (range_with_len 0 k) ≡ length (flat k (carriers (size_of o) t))
+unfolding flat
+carriers_sum o t n zero = refl
+carriers_sum o t n (suc k) =
+    let h = carriers_sum o t n k in
+    let r = carriers_reach o t n k in
+    let s = sum_more (λ a. length (extras_of o t a) + 1) k in
+    let a = ap (λ j. sum_by (λ a. length (extras_of o t a) + 1) (range_with_len 0 j)) (add-one k) in
+    let b = ap (λ j. length (flat j (carriers (size_of o) t))) (add-one k) in
+    omega arith
+
+rising_few : (n : ℕ) (A : Atoms) → length (rising n A) ≤ n
+unfolding rising
+rising_few zero A = omega arith
+rising_few (suc n) A = go (A n) (rising_few n A)
+  where
+    go : (b : Bool) → length (rising n A) ≤ n → length (rising n A ++ cond b (n ∷ []) []) ≤ suc n
+    go true h = let l = length-append (rising n A) (n ∷ []) in omega arith
+    go false h = let l = length-append {A = ℕ} (rising n A) [] in omega arith
+
+pub carriers_few : (o : Order) (t : Task) → t.atoms ≤ 64 → (k : ℕ) → length (flat k (carriers (size_of o) t)) ≤ 65 * k
+unfolding flat
+carriers_few o t n zero = omega arith
+carriers_few o t n (suc k) =
+    let h = carriers_few o t n k in
+    let r = carriers_reach o t n k in
+    let l : length (extras_of o t k) ≤ 64 = rising_few 64 _ in
+    let b = ap (λ j. length (flat j (carriers (size_of o) t))) (add-one k) in
+    omega arith
+
+pub one_more : (o : Order) (t : Task) → Sound t → t.atoms ≤ 64 → (a : ℕ) (r : Row) (E : Atoms) (n m : ℕ) → row_action r ≡ clipped_action 64 (t.action a) →
+    E ≡ extras o t.atoms (joined (members r.adds) (members r.removes)) → n ≡ length (rising 64 E) → m ≡ n + 1 → m ≡ length (extras_of o t a) + 1
+one_more o t s h a r E n m e f g i = i ∙ ap (λ z. z + 1) (g ∙ ap length (extras_same o t s h a r E e f))

@@ -32,6 +32,10 @@ abbrev pub extras : Order → ℕ → Atoms → Atoms
 extras One n A = nothing
 extras Two n A = without (first n) A
 
+-- the same of an action of a task, rising
+abbrev pub extra_list : Order → Task → ℕ → List ℕ
+extra_list o t a = rising 64 (extras o t.atoms (joined (t.action a).adds (t.action a).removes))
+
 -- what it takes along at a place: nothing, or one of those atoms
 abbrev pub cargo_set : List ℕ → ℕ → Atoms
 cargo_set xs zero = nothing

@@ -1,10 +1,10 @@
 //! The compiled task's actions by their numbers.
-ghost use Rattle.std.specs.Prelude.{◌≡◌, ◌≤◌, length};
+ghost use Rattle.std.specs.Prelude.{◌≡◌, ◌+◌, ◌≤◌, length};
 ghost use Rattle.strips.specs.Sets.{joined};
 ghost use Rattle.strips.specs.Bits.{members};
 ghost use Rattle.bounds.specs.Orders.{size_of};
 ghost use Rattle.compiled.specs.Compiled.{all_carriers};
-ghost use Rattle.compiled.specs.Decoded.{CarrierIs, CargoIs, rising, extras as extra_atoms};
+ghost use Rattle.compiled.specs.Decoded.{CarrierIs, CargoIs, rising, extras as extra_atoms, extra_list};
 
 use crate::Compiled;
 use bounds::Order;
@@ -70,15 +70,19 @@ impl<T: Task> Compiled<T> {
         None
     }
 
+    /// How many actions there are for one of the task below: one with nothing taken along, and one for each extra.
+    fn count_of(&self, action: usize) -> usize
+        ensures { result ≡ length (extra_list self.now.order (T.Task.meaning self.now.task) action) + 1 }
+    {
+        count(self.extras(self.task.row(action))) + 1
+    }
+
     /// How many actions there are.
     pub(crate) fn count_carriers(&self) -> usize
         ensures { result ≡ length (all_carriers (size_of self.now.order) (T.Task.meaning self.now.task)) }
     {
-        // A loop, since the sum of a chain over a range leaves goals here that no short answer closes.
-        let mut total = 0;
-        for action in 0..self.task.actions() {
-            total += count(self.extras(self.task.row(action))) + 1;
-        }
-        total
+        (0..self.task.actions())
+            .map(|action| self.count_of(action))
+            .sum()
     }
 }

@@ -14,12 +14,14 @@ use strips::{Denial, RowTable, Task};
 use taskfile::FileView;
 use text::Text;
 
-/// The places of the largest search table, and of the listing's.
+/// The places of the largest search table.
 const MOST_PLACES: usize = 4_096;
 
+/// The places of the listing's search table, and the most actions of its plan.
 const LISTING_PLACES: usize = 2_048;
 
-/// Tells what a call answered, or what its failure tells. Answers 0, or the number of the refusal.
+/// Tells what a call answered, or what its failure tells. Answers 0, or the number of the refusal. Each call makes its slice of N
+/// numbers itself: a closure that answers N numbers is not covered by the borrow checker yet.
 fn answer<const N: usize>(told: &mut [u64; N], outcome: Result<[u64; N], Failure>) -> u32 {
     match outcome {
         Ok(numbers) => {

@@ -16,7 +16,7 @@ pub trait Bound {
 }
 
 /// On the task itself.
-#[derive(Clone, Copy)]
+#[derive(Clone, Copy, Debug, PartialEq, Eq)]
 pub struct OnTask;
 
 impl Bound for OnTask {
@@ -30,7 +30,7 @@ impl Bound for OnTask {
 }
 
 /// On the task compiled into those sets.
-#[derive(Clone, Copy)]
+#[derive(Clone, Copy, Debug, PartialEq, Eq)]
 pub struct OnCompiled;
 
 impl Bound for OnCompiled {

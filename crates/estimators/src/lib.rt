@@ -13,11 +13,15 @@ pub trait Estimator {
 
 /// Refuses a task of more than 64 atoms or 256 actions.
 pub(crate) fn sized<T: Task>(task: &T) -> Result<(), Denial> {
-    is_small(task).then_some(()).ok_or(Denial::TaskOutOfRange)
+    if is_small(task) {
+        Ok(())
+    } else {
+        Err(Denial::TaskOutOfRange)
+    }
 }
 
 /// Says 0 of every state.
-#[derive(Clone, Copy)]
+#[derive(Clone, Copy, Debug, PartialEq, Eq)]
 pub struct Blind;
 
 impl Estimator for Blind {

@@ -29,8 +29,8 @@ impl fmt::Display for BoundLine {
     }
 }
 
-/// The plan, that there is none, or why it was refused: a type with a `Display` of its own, which a `Result` of an `Option` has
-/// not.
+/// The plan, that there is none, or why it was refused: a type with a `Display` of its own, which a `Result` of an `Option` does
+/// not have.
 #[derive(Clone, Copy, Debug, PartialEq, Eq)]
 pub enum PlanLine<'a> {
     Found(u32, &'a [u16]),

@@ -46,12 +46,15 @@ fn turns<E: Estimator>(
             let known = table.states();
             let mut at = 0;
             let place = loop {
-                if at == known.len() || known[at] == state {
-                    break at;
+                if at == known.len() {
+                    break None;
+                }
+                if known[at] == state {
+                    break Some(at);
                 }
                 at += 1;
             };
-            if place < known.len() {
+            if let Some(place) = place {
                 table.reach(place, way);
                 continue 'actions;
             }

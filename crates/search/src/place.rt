@@ -60,7 +60,8 @@ impl Place {
     }
 }
 
-/// A way to a state: what it costs, the place before the state, and the action between them.
+/// A way to a state: what it costs, the place before the state, and the action between them. A place is public and keeps its
+/// fields, so a way is copied into it.
 #[derive(Clone, Copy, Default)]
 pub(crate) struct Way {
     pub(crate) paid: u32,
@@ -68,7 +69,8 @@ pub(crate) struct Way {
     pub(crate) action: u16,
 }
 
-/// What a search tells. With an `Option` inside, the places used would stand beside it and in the tuple.
+/// What a search tells. The tuple is laid down (docs/DECISIONS.md, forms by place), and with an `Option` around it the places used
+/// would stand beside it too.
 #[derive(Clone, Copy, Debug, PartialEq, Eq)]
 pub enum Answer {
     /// A cheapest plan: its length, its cost and the places used.

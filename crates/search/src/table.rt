@@ -80,6 +80,7 @@ impl<'a> Table<'a> {
         ensures in_use { self.new.used ≡ self.old.used }
         ensures closed { not_closed self.new ≡ not_closed self.old }
     {
+        // through a variable: the borrow checker does not cover the write inside a struct with ghost fields
         let places = &mut *self.places;
         places[place].reach(way);
     }

@@ -68,13 +68,6 @@ bits_with x a h = ap (λ z. bits_of (bit_or x z)) (one_shl a 64 h) ∙ same_atom
     share true u v = turn u v
     share false u v = refl
 
-pub bits_with_none : (x a : ℕ) → 64 ≤ a → bits_of x ≡ clipped 64 (plus a (bits_of x))
-bits_with_none x a h = same_atoms (bits_of x) (clipped 64 (plus a (bits_of x))) (λ p. go p (cases_lt p 64))
-  where
-    go : (p : ℕ) → (p < 64) ⊎ (64 ≤ p) → (ltb p 64 && bit p x) ≡ (ltb p 64 && (eqb p a || (ltb p 64 && bit p x)))
-    go p (inl k) = rw (lt-ltb p 64 k, ne_eqb p a (λ e. omega arith))
-    go p (inr k) = rw (le-ltb p 64 k)
-
 -- the atoms of A up to n, from those below n, where n is in A and where it is not
 pub clipped_put : (n : ℕ) (A B : Atoms) → n < 64 → B ≡ clipped n A → true ≡ A n → clipped 64 (plus n B) ≡ clipped (n + 1) A
 clipped_put n A B h e a = ap (λ X. clipped 64 (plus n X)) e ∙ same_atoms (clipped 64 (plus n (clipped n A))) (clipped (n + 1) A) (λ p. go p (cases_eq p n) (cases_lt p n))

@@ -3,6 +3,22 @@ ghost use Rattle.strips.specs.Table.{table_task, table_sound};
 
 use crate::{Row, RowTable, Task};
 
+impl RowTable {
+    ghost use Rattle.std.specs.Prelude.{◌≡◌};
+    ghost use Rattle.strips.specs.Rows.{row_action};
+
+    // The row of an action.
+    fn row_at(&self, action: usize) -> Row
+        ensures { row_action result ≡ (table_task self.now).action action }
+    {
+        if action < self.actions {
+            self.rows[action]
+        } else {
+            Row::NONE
+        }
+    }
+}
+
 impl Task for RowTable {
     ghost meaning = { table_task };
 
@@ -17,23 +33,19 @@ impl Task for RowTable {
     }
 
     fn needs(&self, action: usize, atom: usize) -> bool {
-        action < self.actions && self.rows[action].needs.has(atom)
+        self.row_at(action).needs.has(atom)
     }
 
     fn adds(&self, action: usize, atom: usize) -> bool {
-        action < self.actions && self.rows[action].adds.has(atom)
+        self.row_at(action).adds.has(atom)
     }
 
     fn removes(&self, action: usize, atom: usize) -> bool {
-        action < self.actions && self.rows[action].removes.has(atom)
+        self.row_at(action).removes.has(atom)
     }
 
     fn cost(&self, action: usize) -> u16 {
-        if action < self.actions {
-            self.rows[action].cost
-        } else {
-            0
-        }
+        self.row_at(action).cost
     }
 
     fn in_start(&self, atom: usize) -> bool {
@@ -45,10 +57,6 @@ impl Task for RowTable {
     }
 
     fn row(&self, action: usize) -> Row {
-        if action < self.actions {
-            self.rows[action]
-        } else {
-            Row::NONE
-        }
+        self.row_at(action)
     }
 }

@@ -1,5 +1,5 @@
 //! Sets of atoms below 64.
-ghost use Rattle.std.specs.Prelude.{◌≡◌, ℕ, ◌<◌, true, MatchOption};
+ghost use Rattle.std.specs.Prelude.{◌≡◌, ◌<◌, true, MatchOption};
 ghost use Rattle.strips.specs.Sets.{nothing, joined as union, common as shared, without as difference, clipped, first as below, plus, inside, meets as overlap, Within};
 ghost use Rattle.strips.specs.Bits.{bits_of, members, number};
 ghost use Rattle.strips.specs.Parts.{FirstFrom, Parted};

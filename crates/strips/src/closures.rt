@@ -1,5 +1,5 @@
 //! A task with some actions closed.
-ghost use Rattle.std.specs.Prelude.{◌≡◌, ℕ, ◌<◌, ◌≤◌, false, Some, None, MatchResult};
+ghost use Rattle.std.specs.Prelude.{◌≡◌, ◌<◌, false, Some, None, MatchResult};
 ghost use Rattle.strips.specs.Closed.{closed_of, put, mark_denied};
 ghost use Rattle.strips.specs.Layers.{with_closures, closures_denied};
 ghost use Rattle.strips.specs.Sets.{first, inside};
@@ -27,7 +27,7 @@ impl Closures {
     pub fn is_closed(&self, action: usize) -> bool
         ensures { result ≡ closed_of self.now action }
     {
-        action < 256 && self.marks[action]
+        self.marks.get(action).copied().unwrap_or(false)
     }
 
     /// Marks one action as closed or open.

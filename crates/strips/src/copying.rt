@@ -1,5 +1,5 @@
 //! A copy of any small task into a row table.
-ghost use Rattle.std.specs.Prelude.{◌≡◌, ℕ, ◌<◌, ◌≤◌, Some, None, true, MatchResult, slice_index_or};
+ghost use Rattle.std.specs.Prelude.{◌≡◌, ℕ, ◌<◌, Some, None, true, MatchResult, slice_index_or};
 ghost use Rattle.strips.specs.Task.{small};
 ghost use Rattle.strips.specs.Rows.{row_action, no_row};
 ghost use Rattle.strips.specs.Table.{table_task, copy_denied};

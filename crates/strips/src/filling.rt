@@ -1,14 +1,15 @@
 //! The calls that fill a row table.
-ghost use Rattle.std.specs.Prelude.{◌≡◌, ℕ, ◌<◌, ◌≤◌, replicate, Some, None, MatchResult};
+ghost use Rattle.std.specs.Prelude.{◌≡◌, ◌<◌, ◌≤◌, Some, None, MatchResult};
 ghost use Rattle.strips.specs.Bits.{members};
-ghost use Rattle.strips.specs.Rows.{row_action, blank_row};
+ghost use Rattle.strips.specs.Rows.{row_action};
 ghost use Rattle.strips.specs.Table.{table_task, blank_task, with_action, with_start, with_goal, clear_denied, set_denied, row_denied};
 
 use crate::{AtomSet, Denial, Row, RowTable};
 
-/// The most atoms and actions of a row table.
+/// The most atoms of a row table.
 const MOST_ATOMS: usize = 64;
 
+/// The most actions of a row table.
 const MOST_ACTIONS: usize = 256;
 
 /// A table of some atoms and actions, cost 1 in every row, and all sets empty.

@@ -1,6 +1,6 @@
 //! Numbers of 64 bits as sets of atoms: bit p stands for the atom p. Each operation has a function here beside the method of
 //! `AtomSet` that calls it, so that hardly a proof above this file meets a bit.
-ghost use Rattle.std.specs.Prelude.{◌≡◌, ℕ, ◌<◌, MatchOption};
+ghost use Rattle.std.specs.Prelude.{◌≡◌, ◌<◌, MatchOption};
 ghost use Rattle.strips.specs.Sets.{nothing, joined, common, without, clipped, first, plus, inside, meets};
 ghost use Rattle.strips.specs.Bits.{bits_of};
 ghost use Rattle.strips.specs.Parts.{FirstFrom, Parted};

@@ -21,9 +21,7 @@ impl Row {
 
     /// A row as clearing a row table leaves it: no atoms, cost 1.
     pub const BLANK: Row = Row {
-        needs: AtomSet::EMPTY,
-        adds: AtomSet::EMPTY,
-        removes: AtomSet::EMPTY,
         cost: 1,
+        ..Row::NONE
     };
 }

@@ -1,5 +1,5 @@
 //! A task held in memory, row by row.
-ghost use Rattle.std.specs.Prelude.{ℕ, ◌<◌, ◌≤◌};
+ghost use Rattle.std.specs.Prelude.{◌≤◌};
 ghost use Rattle.strips.specs.Sets.{Within};
 ghost use Rattle.strips.specs.Bits.{members};
 ghost use Rattle.strips.specs.Rows.{AllWithin, AllApart, AllCheap};
@@ -13,7 +13,8 @@ pub struct RowTable {
     pub(crate) actions: usize,
     pub(crate) start: AtomSet,
     pub(crate) goal: AtomSet,
-    /// As many as there can be, since nothing is allocated; the first `actions` of them count.
+    /// As many as there can be, of which the first `actions` count: nothing is allocated, and an `ArrayVec`, which would hold the
+    /// count, is not in `std`.
     pub(crate) rows: [Row; 256],
     ghost few_atoms: { atoms ≤ 64 },
     ghost few_actions: { actions ≤ 256 },

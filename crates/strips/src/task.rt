@@ -1,5 +1,5 @@
 //! The task interface.
-ghost use Rattle.std.specs.Prelude.{◌≡◌, ℕ, ◌<◌, ◌≤◌};
+ghost use Rattle.std.specs.Prelude.{◌≡◌, ◌<◌};
 ghost use Rattle.strips.specs.Task.{Task as Meaning, Sound, small};
 ghost use Rattle.strips.specs.Sets.{clipped};
 ghost use Rattle.strips.specs.Bits.{members};

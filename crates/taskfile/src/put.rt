@@ -47,7 +47,8 @@ pub(crate) fn size<const N: usize>(field: Option<[u8; N]>) -> usize
     if field.is_some() { N } else { 0 }
 }
 
-/// Writes a field where it is present, and tells the place after it.
+/// Writes a field where it is present, and tells the place after it. Buffer and place go along together here: a writer that held
+/// what is left of the buffer would have to tell in its contracts where that begins, which is what `at` tells.
 pub(crate) fn put<const N: usize>(out: &mut [u8], at: usize, field: Option<[u8; N]>) -> usize
     requires { at + length (bytes_in field) ≤ length out.old }
     ensures bytes { out.new ≡ written out.old at (bytes_in field.entry) }

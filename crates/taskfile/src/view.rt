@@ -16,7 +16,8 @@ pub struct FileView<'a> {
     start: AtomSet,
     goal: AtomSet,
     records: &'a [u8],
-    /// As many as there can be, since nothing is allocated; the first `actions` of them count.
+    /// As many as there can be, of which the first `actions` count: nothing is allocated, and an `ArrayVec`, which would hold the
+    /// count, is not in `std`.
     places: [usize; ACTIONS],
     ghost few: { actions ≤ 256 },
     ghost start_in: { Within atoms (members start) },

@@ -3,7 +3,7 @@ use Rattle.strips.specs.Parts.{part_of, Listed}
 use Rattle.strips.specs.Task.{Task, Sound}
 use Rattle.strips.specs.declared.part.Part.{Part}
 use Rattle.strips.proofs.Soundness.{part_within}
-use Rattle.strips.proofs.Listing.{listed_none, listed_more, listed_end, listed_full}
+use Rattle.strips.proofs.Listing.{listed_full}
 use Rattle.strips.proofs.task.Task.list_of.Goals as goal
 
 -- no task has an atom of 2080 or more
