@@ -35,7 +35,7 @@ pub(crate) trait Front {
     fn is_settled(&self, atoms: AtomSet) -> bool;
 
     /// The value of a set of atoms: the greatest cost of a set inside it, and 0; the number that stands for none where one is
-    /// not reached.
+    /// not reached, since as an `Option` none would come before every cost.
     fn value(&self, atoms: AtomSet) -> u32;
 }
 

@@ -32,7 +32,7 @@ where
     }
 }
 
-/// The dearest of some atoms, and its cost.
+/// The dearest of some atoms, and its cost, or the number that stands for none: as an `Option` none would come before every cost.
 #[derive(Clone, Copy)]
 struct Dearest {
     cost: u32,

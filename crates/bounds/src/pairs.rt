@@ -12,7 +12,8 @@ use strips::{AtomSet, Part, Row, RowTable, Task};
 struct PairRow {
     /// The atoms q for which {p, q} is settled, and p itself where {p} is.
     settled: AtomSet,
-    /// The least cost among the sets whose highest atom is p and which are not settled, or the number that stands for none.
+    /// The least cost among the sets whose highest atom is p and which are not settled, or the number that stands for none: as an
+    /// `Option` none would come before every cost.
     least: u32,
 }
 

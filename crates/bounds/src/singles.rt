@@ -12,7 +12,8 @@ pub(crate) struct Singles<'a> {
     table: &'a mut CostTable,
     atoms: usize,
     settled: AtomSet,
-    /// The least cost of an atom that is not settled, or the number that stands for none.
+    /// The least cost of an atom that is not settled, or the number that stands for none: as an `Option` none would come before
+    /// every cost.
     least: u32,
     ghost few_atoms: { atoms ≤ 64 },
 }

@@ -11,7 +11,8 @@ pub trait Estimator {
     fn estimate<T: Task>(&mut self, task: &T, state: AtomSet) -> Result<Option<u32>, Denial>;
 }
 
-/// Refuses a task of more than 64 atoms or 256 actions.
+/// Refuses a task of more than 64 atoms or 256 actions. The same two lines stand where a layer, a copy and a file are refused: a
+/// public function for them would be no plainer than `is_small`.
 pub(crate) fn sized<T: Task>(task: &T) -> Result<(), Denial> {
     if is_small(task) {
         Ok(())

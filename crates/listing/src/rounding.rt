@@ -1,5 +1,5 @@
 //! Costs as whole seconds.
-ghost use Rattle.std.specs.Prelude.{◌≡◌, ℕ, ◌+◌, ◌/◌};
+ghost use Rattle.std.specs.Prelude.{◌≡◌, ◌+◌, ◌/◌};
 
 /// Tenths of a second as whole seconds, half a second rounded up.
 pub fn seconds(tenths: u32) -> u32

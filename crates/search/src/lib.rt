@@ -1,7 +1,7 @@
 //! A* over the states of a task, in a lent table.
 #![tactic(auto)]
 
-ghost use Rattle.std.specs.Prelude.{ℕ, ◌<◌, length, IfOk, IfSome};
+ghost use Rattle.std.specs.Prelude.{◌<◌, length, IfOk, IfSome};
 ghost use Rattle.search.specs.Answer.{PlanWithin};
 
 mod place;

@@ -1,5 +1,5 @@
 //! The table of a search.
-ghost use Rattle.std.specs.Prelude.{◌≡◌, ℕ, true, ◌<◌, ◌+◌, ◌≤◌, length, take, IfOk, IfSome};
+ghost use Rattle.std.specs.Prelude.{◌≡◌, true, ◌<◌, ◌+◌, ◌≤◌, length, take, IfOk, IfSome};
 ghost use Rattle.search.specs.Answer.{PlanWithin};
 ghost use Rattle.search.specs.Places.{is_open};
 
