@@ -65,7 +65,7 @@ impl<F: Front> Settling<'_, F> {
         }
     }
 
-    /// Looks at the actions that need an atom of a set.
+    /// Looks at the actions that need an atom of a set. Blocks go by number, since an action's number is made of its block's.
     fn look_at_readers(&mut self, atoms: AtomSet, now: u32) {
         for block in 0..BLOCKS {
             let actions = self.readers.needing(block, atoms);
@@ -112,8 +112,8 @@ pub(crate) fn goal_cost<F: Front + Drop>(front: &mut F, task: &RowTable) -> Opti
     reached(settling.front.value(goal))
 }
 
-/// The places of the costs up to a cost, and the least of the others. Nothing here branches: with an `if` around what is kept
-/// the bound over pairs takes a quarter longer on the examples.
+/// The places of the costs up to a cost, and the least of the others, or the number that stands for none, as in the tables.
+/// Nothing here branches: with an `if` around what is kept the bound over pairs takes a quarter longer on the examples.
 pub(crate) fn up_to(costs: &[u32], now: u32) -> (AtomSet, u32) {
     let mut places = AtomSet::EMPTY;
     let mut least = NONE;

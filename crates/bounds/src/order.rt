@@ -3,8 +3,8 @@ ghost use Rattle.bounds.specs.Orders.{OrderOf};
 
 use strips::Denial;
 
-/// Sets of one atom, or of one or two. Public calls take the number and refuse others, as they did: to take an order would ask
-/// more of their callers.
+/// Sets of one atom, or of one or two. Public calls take the number and refuse others: to take an order would ask more of their
+/// callers.
 #[derive(Clone, Copy, Debug, PartialEq, Eq)]
 pub enum Order {
     One = 1,

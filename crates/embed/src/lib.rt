@@ -1,5 +1,6 @@
 //! The planner for controllers in C: include/shelfline.h says what each call does. The crate `embed_c` exports these calls.
-//! Numbers of C become sizes, and sizes become numbers, by `as`: there is no `From` between them.
+//! A call answers a number, since C knows no `Result`. Numbers of C become sizes, and sizes become numbers, by `as`: there is no
+//! `From` between them.
 #![tactic(auto)]
 
 mod choice;
