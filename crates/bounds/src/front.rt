@@ -21,6 +21,9 @@ pub(crate) trait Front {
     /// proof of this, which is not there yet.
     const TURNS: usize;
 
+    /// Enters the sets inside a set of atoms, each with cost 0.
+    fn begin(&mut self, start: AtomSet);
+
     /// Looks at an action: where all it needs is settled, what it makes costs at most `now` and the action.
     fn look_at(&mut self, action: usize, row: Row, now: u32)
         requires { action < 256 };
@@ -94,12 +97,12 @@ impl<F: Front> Settling<'_, F> {
 /// The value of the goal of a task once its sets are settled, or none where it cannot be reached.
 pub(crate) fn goal_cost<F: Front + Drop>(front: &mut F, task: &RowTable) -> Option<u32> {
     let goal = task.set_of(Part::Goal);
-    let readers = Readers::of(task);
     let mut settling = Settling {
         front,
         task,
-        readers,
+        readers: Readers::of(task),
     };
+    settling.front.begin(task.set_of(Part::Start));
     // first every action, since some may need nothing
     settling.front.settle(0);
     settling.look_at_all(0);

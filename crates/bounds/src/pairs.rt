@@ -5,7 +5,7 @@ use crate::front::{Front, ToLookAt, up_to};
 use crate::set_costs::SetCosts;
 use crate::table::reached;
 use crate::{CostTable, NONE};
-use strips::{AtomSet, Part, Row, RowTable, Task};
+use strips::{AtomSet, Row, RowTable, Task};
 
 /// The sets that an atom p is in.
 #[derive(Clone, Copy)]
@@ -37,18 +37,15 @@ pub(crate) struct Pairs<'a> {
 }
 
 impl<'a> Pairs<'a> {
-    /// The front at the start of a task, with nothing settled.
+    /// The front of a task, with nothing entered.
     pub(crate) fn new(table: &'a mut CostTable, task: &RowTable) -> Pairs<'a> {
         *table = CostTable::new();
-        let mut pairs = Pairs {
+        Pairs {
             costs: SetCosts::new(table, task.atoms()),
             rows: [PairRow::NOTHING; 64],
             single: AtomSet::EMPTY,
             told: [AtomSet::EMPTY; 256],
-        };
-        let start = task.set_of(Part::Start);
-        pairs.lower_added(start, start, 0);
-        pairs
+        }
     }
 
     /// The atoms that are settled alone, and together with every one of a set.
@@ -138,6 +135,10 @@ impl<'a> Pairs<'a> {
 
 impl Front for Pairs<'_> {
     const TURNS: usize = 2081;
+
+    fn begin(&mut self, start: AtomSet) {
+        self.lower_added(start, start, 0);
+    }
 
     /// Where all it needs is settled, together with an atom that it leaves alone, its effects beside that atom are entered.
     fn look_at(&mut self, action: usize, row: Row, now: u32) {

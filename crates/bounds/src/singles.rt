@@ -4,7 +4,7 @@ ghost use Rattle.std.specs.Prelude.{◌≤◌};
 use crate::front::{Front, ToLookAt, up_to};
 use crate::table::reached;
 use crate::{CostTable, NONE};
-use strips::{AtomSet, Part, Row, RowTable, Task};
+use strips::{AtomSet, Row, RowTable, Task};
 
 /// Single atoms as a front.
 #[derive(Drop)]
@@ -19,17 +19,15 @@ pub(crate) struct Singles<'a> {
 }
 
 impl<'a> Singles<'a> {
-    /// The front at the start of a task, with nothing settled.
+    /// The front of a task, with nothing entered.
     pub(crate) fn new(table: &'a mut CostTable, task: &RowTable) -> Singles<'a> {
         *table = CostTable::new();
-        let mut singles = Singles {
+        Singles {
             table,
             atoms: task.atoms(),
             settled: AtomSet::EMPTY,
             least: NONE,
-        };
-        singles.lower_all(task.set_of(Part::Start), 0);
-        singles
+        }
     }
 
     /// Lowers the costs of some atoms.
@@ -44,6 +42,10 @@ impl<'a> Singles<'a> {
 
 impl Front for Singles<'_> {
     const TURNS: usize = 65;
+
+    fn begin(&mut self, start: AtomSet) {
+        self.lower_all(start, 0);
+    }
 
     fn look_at(&mut self, _action: usize, row: Row, now: u32) {
         if row.needs.is_inside(self.settled) {

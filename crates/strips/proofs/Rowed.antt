@@ -1,8 +1,8 @@
 -- Tables of rows, as they are made and after one row is set.
-use Rattle.std.proofs.Common.{◌≡◌, ℕ, zero, suc, ◌+◌, ◌<◌, ◌≤◌, Bool, true, false, cond, ltb, ◌⊎◌, List, length, get_or, set, replicate, sym, refl, ap, ◌∙◌, subst, inl, inr, ⊎_elim, true≢false, arith, get_or-set_other, get_or-set_same, ltb-false, ltb-true}
-use lib.ListN.{get_or-replicate, length-replicate}
+use Rattle.std.proofs.Common.{◌≡◌, ℕ, ◌+◌, ◌-◌, ◌<◌, ◌≤◌, Bool, true, false, cond, ltb, ◌⊎◌, List, ◌++◌, drop, length, get_or, set, replicate, sym, refl, ap, ◌∙◌, subst, inl, inr, ⊎_elim, true≢false, arith, get_or-set_other, get_or-set_same, ltb-false, ltb-true}
+use lib.ListN.{get_or-append, get_or-replicate, length-replicate}
 use Rattle.std.proofs.lemmas.Bool.{cases_lt, cases_eq, cases_Bool}
-use Rattle.std.proofs.lemmas.List.{get_or_past}
+use Rattle.std.proofs.lemmas.List.{get_or_past, get_or-drop, get_or-append_right}
 use Rattle.strips.specs.Sets.{Atoms, nothing, clipped, meets, Within, Apart}
 use Rattle.strips.specs.Task.{Action, Task, Sound, SoundAction, no_action}
 use Rattle.strips.specs.Bits.{bit, members}
@@ -87,11 +87,20 @@ copied_more t rows i r l e f a h =
     (λ q. ap row_action (get_or-set_other rows i a r no_row q) ∙ f a (omega arith))
     (cases_eq a i)
 
--- 256 rows that stand for a small task's actions, and what is read past them
-pub copied_all : (t : Task) → Sound t → t.actions ≤ 256 → (rows : List Row) → length rows ≡ 256 →
-    ((a : ℕ) → a < 256 → row_action (get_or rows a no_row) ≡ t.action a) → (a : ℕ) → row_action (get_or rows a no_row) ≡ t.action a
-copied_all t s few rows long f a =
-    ⊎_elim (f a) (λ h. ap row_action (get_or_past rows a no_row (omega arith)) ∙ (no_row_action ∙ sym (s.past a (omega arith)))) (cases_lt a 256)
+-- the rows of a task's actions, and behind them rows that are no action's
+pub copied_all : (t : Task) → Sound t → (k : ℕ) (rows : List Row) → length rows ≡ t.actions →
+    ((a : ℕ) → a < t.actions → row_action (get_or rows a no_row) ≡ t.action a) → (a : ℕ) → row_action (get_or (rows ++ drop k (replicate 256 no_row)) a no_row) ≡ t.action a
+copied_all t s k rows long f a =
+    ⊎_elim
+    (λ l. ap row_action (get_or-append rows past no_row a (omega arith)) ∙ f a l)
+    (λ (l : t.actions ≤ a). ap row_action (get_or-append_right rows past t.actions a no_row long l ∙ (get_or-drop k (replicate 256 no_row) (a - t.actions) no_row ∙ empty_rows (k + (a - t.actions)))) ∙ (no_row_action ∙ sym (s.past a l)))
+    (cases_lt a t.actions)
+  where
+    past : List Row
+    past = drop k (replicate 256 no_row)
+
+    empty_rows : (i : ℕ) → get_or (replicate 256 no_row) i no_row ≡ no_row
+    empty_rows i = ⊎_elim (λ l. get_or-replicate 256 i no_row no_row l) (λ l. get_or_past (replicate 256 no_row) i no_row (let e = length-replicate 256 no_row in omega arith)) (cases_lt i 256)
 
 -- the whole copy
 pub copied_task : (t : Task) → Sound t → (start goal : AtomSet) (rows : List Row) → members start ≡ t.start → members goal ≡ t.goal →

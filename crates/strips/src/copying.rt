@@ -11,9 +11,10 @@ fn rows_of<T: Task>(task: &T) -> [Row; 256]
     requires { small (T.Task.meaning task.now) ≡ true }
     ensures { (a : ℕ) → row_action (slice_index_or result a no_row) ≡ (T.Task.meaning task.now).action a }
 {
-    // a loop, since `array::from_fn` clears and copies the rows several times, and a bound over atoms then takes an eighth longer
+    // a loop, since `array::from_fn` clears and copies the rows several times, and a bound over atoms then takes an eighth longer; over
+    // as many rows as there are actions, since a row that is no action's costs a task as much as another
     let mut rows = [Row::NONE; 256];
-    for (action, row) in rows.iter_mut().enumerate() {
+    for (action, row) in rows[..task.actions()].iter_mut().enumerate() {
         *row = task.row(action);
     }
     rows

@@ -16,5 +16,4 @@ loop-action-preserved g c =
 
 pub returns : goal.returns
 returns g c =
-    let t = g.T.Task.meaning c.args.task.now in
-    copied_all t (g.T.Task.sound c.args.task.now) (small_parts t c.requires).1 c.loop-action.row-items c.loop-action.invariant.0 (λ a l. c.loop-action.invariant.1 a (omega arith))
+    copied_all (g.T.Task.meaning c.args.task.now) (g.T.Task.sound c.args.task.now) c.actions.result c.loop-action.row-items c.loop-action.invariant.0 (λ a l. c.loop-action.invariant.1 a (omega arith))
