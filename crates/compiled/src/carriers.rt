@@ -40,6 +40,7 @@ fn cargo_at(extras: AtomSet, place: usize) -> Option<AtomSet>
 impl<T: Task> Compiled<T> {
     /// The atoms that an action can take along, one at a time: where the sets are of one or two atoms, those that it
     /// neither adds nor removes.
+    #[inline(always)]
     fn extras(&self, row: Row) -> AtomSet
         ensures { members result ≡ extra_atoms self.now.order (T.Task.meaning self.now.task).atoms (joined (members row.adds) (members row.removes)) }
     {
@@ -52,7 +53,8 @@ impl<T: Task> Compiled<T> {
         }
     }
 
-    /// The action of a number.
+    /// The action of a number. Inlined by hand, as `extras` is: where each action has one carrier the walk then takes no time.
+    #[inline(always)]
     pub(crate) fn carrier(&self, number: usize) -> Option<Carrier>
         ensures { CarrierIs (size_of self.now.order) (T.Task.meaning self.now.task) number result }
     {
