@@ -29,7 +29,10 @@ impl fmt::Write for Text<'_> {
     fn write_str(&mut self, s: &str) -> fmt::Result {
         let fits = s.len().min(self.rest.len());
         if let Some(front) = self.rest.split_off_mut(..fits) {
-            front.copy_from_slice(&s.as_bytes()[..fits]);
+            // byte by byte: with `copy_from_slice` the static library would need `memmove` of its host
+            for (place, byte) in front.iter_mut().zip(s.bytes()) {
+                *place = byte;
+            }
         }
         if fits < s.len() {
             Err(fmt::Error)
