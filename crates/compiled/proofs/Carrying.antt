@@ -70,26 +70,22 @@ kept_singles n (suc k) a h =
     last true = refl
     last false = refl
 
-cargo_list : (o : Order) (n : ℕ) (a : Action) → n ≤ 64 → cargo n (size_of o) a ≡ nothing ∷ map one (rising 64 (extras o n (touched a)))
+cargo_list : (o : Order) (n : ℕ) (a : Action) → cargo n (size_of o) a ≡ nothing ∷ map one (rising n (extras o n (touched a)))
 unfolding kept smalls
-cargo_list One n a h = rw (apart_nothing n a) (ap (λ zs. nothing ∷ map one zs) (sym (rising_none 64 nothing (λ q l. refl))))
-cargo_list Two n a h = rw (apart_nothing n a) (ap (λ zs. nothing ∷ zs) (kept_singles n n a (omega arith) ∙ ap (map one) (sym (rising_within n 64 (extras Two n (touched a)) (λ p e. ltb-true p n (and_parts (ltb p n) (not (touched a p)) e).0) h))))
+cargo_list One n a = rw (apart_nothing n a) (ap (λ zs. nothing ∷ map one zs) (sym (rising_none n nothing (λ q l. refl))))
+cargo_list Two n a = rw (apart_nothing n a) (ap (λ zs. nothing ∷ zs) (kept_singles n n a (omega arith)))
 
--- what the action a of a task can take along
-abbrev pub extras_of : Order → Task → ℕ → List ℕ
-extras_of o t a = rising 64 (extras o t.atoms (joined (t.action a).adds (t.action a).removes))
-
-carriers_length : (o : Order) (t : Task) → t.atoms ≤ 64 → (a : ℕ) → length (carriers (size_of o) t a) ≡ suc (length (extras_of o t a))
-carriers_length o t h a =
+pub carriers_length : (o : Order) (t : Task) (a : ℕ) → length (carriers (size_of o) t a) ≡ suc (length (rising t.atoms (extras o t.atoms (touched (t.action a)))))
+carriers_length o t a =
     length-map (cargo t.atoms (size_of o) (t.action a)) (carrying t.atoms (size_of o) (t.action a))
-    ∙ (ap length (cargo_list o t.atoms (t.action a) h) ∙ ap suc (length-map (extras_of o t a) one))
+    ∙ (ap length (cargo_list o t.atoms (t.action a)) ∙ ap suc (length-map (rising t.atoms (extras o t.atoms (touched (t.action a)))) one))
 
-carriers_at : (o : Order) (t : Task) → t.atoms ≤ 64 → (a j : ℕ) → j ≤ length (extras_of o t a) →
-    get_or (carriers (size_of o) t a) j no_action ≡ carrying t.atoms (size_of o) (t.action a) (cargo_set (extras_of o t a) j)
-carriers_at o t k a j h = ap (λ zs. get_or (map C zs) j no_action) (cargo_list o t.atoms (t.action a) k) ∙ go j h
+pub carriers_at : (o : Order) (t : Task) (a j : ℕ) → j ≤ length (rising t.atoms (extras o t.atoms (touched (t.action a)))) →
+    get_or (carriers (size_of o) t a) j no_action ≡ carrying t.atoms (size_of o) (t.action a) (cargo_set (rising t.atoms (extras o t.atoms (touched (t.action a)))) j)
+carriers_at o t a j h = ap (λ zs. get_or (map C zs) j no_action) (cargo_list o t.atoms (t.action a)) ∙ go j h
   where
     xs : List ℕ
-    xs = extras_of o t a
+    xs = rising t.atoms (extras o t.atoms (touched (t.action a)))
 
     C : Atoms → Action
     C = carrying t.atoms (size_of o) (t.action a)
@@ -98,13 +94,30 @@ carriers_at o t k a j h = ap (λ zs. get_or (map C zs) j no_action) (cargo_list 
     go zero h = refl
     go (suc i) h = get_or-map C (map one xs) i nothing no_action (rw length-map (omega arith)) ∙ ap C (get_or-map one xs i 0 nothing (omega arith))
 
+-- what the action a of a task can take along
+abbrev pub extras_of : Order → Task → ℕ → List ℕ
+extras_of o t a = rising 64 (extras o t.atoms (joined (t.action a).adds (t.action a).removes))
+
+-- in a small task these are all that there are
+extras_whole : (o : Order) (t : Task) → t.atoms ≤ 64 → (a : ℕ) → rising t.atoms (extras o t.atoms (touched (t.action a))) ≡ extras_of o t a
+extras_whole One t h a = rising_none t.atoms nothing (λ q l. refl) ∙ sym (rising_none 64 nothing (λ q l. refl))
+extras_whole Two t h a = sym (rising_within t.atoms 64 (extras Two t.atoms (touched (t.action a))) (λ p e. ltb-true p t.atoms (and_parts (ltb p t.atoms) (not (touched (t.action a) p)) e).0) h)
+
+length_small : (o : Order) (t : Task) → t.atoms ≤ 64 → (a : ℕ) → length (carriers (size_of o) t a) ≡ suc (length (extras_of o t a))
+length_small o t h a = carriers_length o t a ∙ ap (λ xs. suc (length xs)) (extras_whole o t h a)
+
+at_small : (o : Order) (t : Task) → t.atoms ≤ 64 → (a j : ℕ) → j ≤ length (extras_of o t a) →
+    get_or (carriers (size_of o) t a) j no_action ≡ carrying t.atoms (size_of o) (t.action a) (cargo_set (extras_of o t a) j)
+at_small o t k a j h =
+    subst (λ xs. j ≤ length xs → get_or (carriers (size_of o) t a) j no_action ≡ carrying t.atoms (size_of o) (t.action a) (cargo_set xs j)) (extras_whole o t k a) (carriers_at o t a j) h
+
 -- ONE ACTION AFTER ANOTHER --------------------------------------------------
 
-flat_length : {A : Type 0} (k : ℕ) (f : ℕ → List A) → length (flat (k + 1) f) ≡ length (flat k f) + length (f k)
+pub flat_length : {A : Type 0} (k : ℕ) (f : ℕ → List A) → length (flat (k + 1) f) ≡ length (flat k f) + length (f k)
 unfolding flat
 flat_length k f = rw (add-one k) (length-append (flat k f) (f k))
 
-flat_at : {A : Type 0} (k a j : ℕ) (f : ℕ → List A) (d : A) → a < k → j < length (f a) →
+pub flat_at : {A : Type 0} (k a j : ℕ) (f : ℕ → List A) (d : A) → a < k → j < length (f a) →
     (length (flat a f) + j < length (flat k f)) × (get_or (flat k f) (length (flat a f) + j) d ≡ get_or (f a) j d)
 unfolding flat
 flat_at zero a j f d h l = let z : ⊥ = omega arith in absurd z
@@ -124,7 +137,7 @@ flat_at (suc k) a j f d h l =
 -- ROWS ----------------------------------------------------------------------
 
 -- a small task's rows have all of its actions' atoms
-row_same : (t : Task) → Sound t → t.atoms ≤ 64 → (a : ℕ) (r : Row) → row_action r ≡ clipped_action 64 (t.action a) → row_action r ≡ t.action a
+pub row_same : (t : Task) → Sound t → t.atoms ≤ 64 → (a : ℕ) (r : Row) → row_action r ≡ clipped_action 64 (t.action a) → row_action r ≡ t.action a
 row_same t s h a r e = e ∙ whole
   where
     wider : (A : Atoms) → Within t.atoms A → Within 64 A
@@ -149,17 +162,17 @@ extras_same o t s h a r E e f = ap (rising 64) (f ∙ ap (λ b. extras o t.atoms
 
 -- how far one action's carriers reach
 pub carriers_reach : (o : Order) (t : Task) → t.atoms ≤ 64 → (a : ℕ) → length (flat (a + 1) (carriers (size_of o) t)) ≡ length (flat a (carriers (size_of o) t)) + suc (length (extras_of o t a))
-carriers_reach o t h a = flat_length a (carriers (size_of o) t) ∙ ap (λ z. length (flat a (carriers (size_of o) t)) + z) (carriers_length o t h a)
+carriers_reach o t h a = flat_length a (carriers (size_of o) t) ∙ ap (λ z. length (flat a (carriers (size_of o) t)) + z) (length_small o t h a)
 
 pub carrier_found : (o : Order) (t : Task) → Sound t → t.atoms ≤ 64 → (a place i : ℕ) (r : Row) (F : Atoms) → a < t.actions → row_action r ≡ clipped_action 64 (t.action a) →
     place ≤ length (extras_of o t a) → F ≡ cargo_set (extras_of o t a) place → length (flat a (carriers (size_of o) t)) + place ≡ i →
     (i < length (all_carriers (size_of o) t)) × (get_or (all_carriers (size_of o) t) i no_action ≡ carrying t.atoms (size_of o) (row_action r) F)
 carrier_found o t s h a place i r F l e k g j =
     subst (λ z. (z < length (all_carriers (size_of o) t)) × (get_or (all_carriers (size_of o) t) z no_action ≡ carrying t.atoms (size_of o) (row_action r) F)) j
-    (found.0, found.1 ∙ (carriers_at o t h a place k ∙ (ap (carrying t.atoms (size_of o) (t.action a)) (sym g) ∙ ap (λ b. carrying t.atoms (size_of o) b F) (sym (row_same t s h a r e)))))
+    (found.0, found.1 ∙ (at_small o t h a place k ∙ (ap (carrying t.atoms (size_of o) (t.action a)) (sym g) ∙ ap (λ b. carrying t.atoms (size_of o) b F) (sym (row_same t s h a r e)))))
   where
     found : (length (flat a (carriers (size_of o) t)) + place < length (all_carriers (size_of o) t)) × (get_or (all_carriers (size_of o) t) (length (flat a (carriers (size_of o) t)) + place) no_action ≡ get_or (carriers (size_of o) t a) place no_action)
-    found = flat_at t.actions a place (carriers (size_of o) t) no_action l (let w = carriers_length o t h a in omega arith)
+    found = flat_at t.actions a place (carriers (size_of o) t) no_action l (let w = length_small o t h a in omega arith)
 
 -- an atom is taken along at the place after its own
 pub cargo_found : (xs : List ℕ) (place p : ℕ) (S : Atoms) → (place ≡ 0 → ⊥) → AtomAt xs (place - 1) (Some p) → S ≡ clipped 64 (plus p nothing) → (place ≤ length xs) × (S ≡ cargo_set xs place)

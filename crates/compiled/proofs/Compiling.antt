@@ -35,7 +35,7 @@ within_self o n B = same_atoms (within n (size_of o) B) (within_meeting n (size_
         ap (λ b. ltb i (length (smalls n (size_of o))) && b) (both (inside n (set_at n (size_of o) i) B) (meets n (set_at n (size_of o) i) B) (λ e. meets_from n (set_at n (size_of o) i) B p.0 p.1 p.2 (inside_each n (set_at n (size_of o) i) B e p.0 p.1 p.2)))
     go i (inr l) = rw (le-ltb i (length (smalls n (size_of o))) l)
 
-inside_scoped : (o : Order) (n : ℕ) (s : Scope) (B : Atoms) → members s.core ≡ B → members s.rim ≡ nothing → within n (size_of o) B ≡ scoped n (size_of o) s
+pub inside_scoped : (o : Order) (n : ℕ) (s : Scope) (B : Atoms) → members s.core ≡ B → members s.rim ≡ nothing → within n (size_of o) B ≡ scoped n (size_of o) s
 inside_scoped o n s B e f =
     within_self o n B
     ∙ (ap (λ C. within_meeting n (size_of o) C B) (sym (alone B))
@@ -46,7 +46,7 @@ inside_scoped o n s B e f =
 
 -- THE ACTIONS ---------------------------------------------------------------
 
-action_none : (o : Order) (t : Task) (a : ℕ) → CarrierIs (size_of o) t a None → (compiled (size_of o) t).action a ≡ no_action
+pub action_none : (o : Order) (t : Task) (a : ℕ) → CarrierIs (size_of o) t a None → (compiled (size_of o) t).action a ≡ no_action
 action_none o t a h = get_or-eq_default (all_carriers (size_of o) t) no_action h
 
 pub needs_scoped : (o : Order) (t : Task) (a : ℕ) (r : Option Carrier) (q : Option Scope) → CarrierIs (size_of o) t a r →

@@ -24,7 +24,7 @@ twice (suc n) =
     let b : n * suc n ≡ n * n + n = mul-suc n n in
     omega arith
 
-tri_closed : (n : ℕ) → n * (n - 1) / 2 ≡ tri n
+pub tri_closed : (n : ℕ) → n * (n - 1) / 2 ≡ tri n
 unfolding tri
 tri_closed zero = refl
 tri_closed (suc n) =
@@ -63,13 +63,13 @@ two_at n i j h k = ap (λ z. set_at n 2 (n + z + i)) (sym (tri_closed j)) ∙ (c
 within_plus : (n p : ℕ) (A : Atoms) → p < n → Within n A → Within n (plus p A)
 within_plus n p A h w q e = ⊎_elim (λ u. let v = eqb-true q p u in omega arith) (λ u. w q u) (or_cases (eqb q p) (A q) e)
 
-put : (p : ℕ) (A B : Atoms) → p < 64 → Within 64 B → A ≡ B → clipped 64 (plus p A) ≡ plus p B
+pub put : (p : ℕ) (A B : Atoms) → p < 64 → Within 64 B → A ≡ B → clipped 64 (plus p A) ≡ plus p B
 put p A B h w e = ap (λ C. clipped 64 (plus p C)) e ∙ clipped_within 64 (plus p B) (within_plus 64 p B h w)
 
 pub put_one : (p : ℕ) (A S : Atoms) → p < 64 → A ≡ nothing → S ≡ clipped 64 (plus p A) → S ≡ plus p nothing
 put_one p A S h e s = s ∙ put p A nothing h (within_none 64) e
 
-put_two : (i j : ℕ) (A R S : Atoms) → i < 64 → j < 64 → A ≡ nothing → R ≡ clipped 64 (plus i A) → S ≡ clipped 64 (plus j R) → S ≡ plus j (plus i nothing)
+pub put_two : (i j : ℕ) (A R S : Atoms) → i < 64 → j < 64 → A ≡ nothing → R ≡ clipped 64 (plus i A) → S ≡ clipped 64 (plus j R) → S ≡ plus j (plus i nothing)
 put_two i j A R S h k e r s = s ∙ put j R (plus i nothing) k (within_plus 64 i nothing h (within_none 64)) (put_one i A R h e r)
 
 pub tri_below : (n i j : ℕ) → i < j → j < n → tri j + i < tri n
@@ -77,7 +77,7 @@ unfolding tri
 tri_below zero i j h k = let z : ⊥ = omega arith in absurd z
 tri_below (suc n) i j h k = ⊎_elim (λ l. let r = tri_below n i j h l in omega arith) (λ (l : n ≤ j). let e : j ≡ n = omega arith in rw e (omega arith)) (cases_lt j n)
 
-one_is : (n m i : ℕ) (A S : Atoms) → n ≤ 64 → i < n → A ≡ nothing → S ≡ clipped 64 (plus i A) → S ≡ set_at n (suc m) i
+pub one_is : (n m i : ℕ) (A S : Atoms) → n ≤ 64 → i < n → A ≡ nothing → S ≡ clipped 64 (plus i A) → S ≡ set_at n (suc m) i
 one_is n m i A S h k e s = put_one i A S (omega arith) e s ∙ sym (one_at n m i k)
 
 pub pair_is : (n i j place : ℕ) (A R S : Atoms) → n ≤ 64 → i < j → j < n → tri j + i ≡ place → A ≡ nothing → R ≡ clipped 64 (plus i A) → S ≡ clipped 64 (plus j R) →

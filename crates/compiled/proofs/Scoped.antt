@@ -27,7 +27,7 @@ pub record Pair (n place : ℕ) : Type 0 where
   pub inside_n : high < n
   pub placed : tri high + low ≡ place
 
-pair_of : (n place : ℕ) → place < tri n → Pair n place
+pub pair_of : (n place : ℕ) → place < tri n → Pair n place
 unfolding tri
 pair_of zero place h = let z : ⊥ = omega arith in absurd z
 pair_of (suc n) place h =
@@ -103,7 +103,7 @@ meets_one n i B h = meets_plus n i nothing B h ∙ (ap (λ b. B i || b) (meets_n
 
 -- WHAT A SCOPE TAKES IN -----------------------------------------------------
 
-at_atom : (o : Order) (n i : ℕ) (B A : Atoms) → i < n → within_meeting n (size_of o) B A i ≡ (B i && A i)
+pub at_atom : (o : Order) (n i : ℕ) (B A : Atoms) → i < n → within_meeting n (size_of o) B A i ≡ (B i && A i)
 at_atom o n i B A h = go o
   where
     test : (m : ℕ) → (inside n (set_at n (suc m) i) B && meets n (set_at n (suc m) i) A) ≡ (B i && A i)
@@ -113,12 +113,12 @@ at_atom o n i B A h = go o
     go One = ap (λ b. b && (inside n (set_at n 1 i) B && meets n (set_at n 1 i) A)) (lt-ltb i (length (smalls n 1)) (rw one_count h)) ∙ test 0
     go Two = ap (λ b. b && (inside n (set_at n 2 i) B && meets n (set_at n 2 i) A)) (lt-ltb i (length (smalls n 2)) (rw two_count (omega arith))) ∙ test 1
 
-at_pair : (n i j : ℕ) (B A : Atoms) → i < j → j < n → within_meeting n 2 B A (n + tri j + i) ≡ ((B j && B i) && (A j || A i))
+pub at_pair : (n i j : ℕ) (B A : Atoms) → i < j → j < n → within_meeting n 2 B A (n + tri j + i) ≡ ((B j && B i) && (A j || A i))
 at_pair n i j B A h k =
     ap (λ b. b && (inside n (set_at n 2 (n + tri j + i)) B && meets n (set_at n 2 (n + tri j + i)) A)) (lt-ltb (n + tri j + i) (length (smalls n 2)) (rw two_count (let r = tri_below n i j h k in omega arith)))
     ∙ (let l : i < n = omega arith in rw (two_at n i j h k, inside_plus n j (one i) B k, inside_one n i B l, meets_plus n j (one i) A k, meets_one n i A l))
 
-at_none : (m n i : ℕ) (B A : Atoms) → length (smalls n m) ≤ i → within_meeting n m B A i ≡ false
+pub at_none : (m n i : ℕ) (B A : Atoms) → length (smalls n m) ≤ i → within_meeting n m B A i ≡ false
 at_none m n i B A h = ap (λ b. b && (inside n (set_at n m i) B && meets n (set_at n m i) A)) (le-ltb i (length (smalls n m)) h)
 
 -- SETS OF 64 ATOMS ----------------------------------------------------------
@@ -152,7 +152,7 @@ inside_wide n k A B h w = same_test (inside k A B) (inside n A B) (λ e. inside_
 meets_wide : (n k : ℕ) (A B : Atoms) → n ≤ k → Within n A → meets k A B ≡ meets n A B
 meets_wide n k A B h w = same_test (meets k A B) (meets n A B) (λ e. let r = meets_some k A B e in meets_from n A B r.0 (w r.0 r.2) r.2 r.3) (λ e. let r = meets_some n A B e in let l = r.1 in meets_from k A B r.0 (omega arith) r.2 r.3)
 
-scoped_by : (o : Order) (n i : ℕ) (s S B A : Atoms) → n ≤ 64 → i < length (smalls n (size_of o)) → s ≡ set_at n (size_of o) i → S ≡ B → (inside 64 s S && meets 64 s A) ≡ within_meeting n (size_of o) B A i
+pub scoped_by : (o : Order) (n i : ℕ) (s S B A : Atoms) → n ≤ 64 → i < length (smalls n (size_of o)) → s ≡ set_at n (size_of o) i → S ≡ B → (inside 64 s S && meets 64 s A) ≡ within_meeting n (size_of o) B A i
 scoped_by o n i s S B A h l e f =
     let w = set_within o n i l in
     ap (λ C. inside 64 C S && meets 64 C A) e
@@ -256,15 +256,15 @@ atom_at o n i s h = at_atom o n i (around s) (members s.core) h ∙ (both (membe
     both false true = refl
     both false false = refl
 
-atom_found : (o : Order) (n from p : ℕ) (s : Scope) → FirstFrom (clipped n (members s.core)) from (Some p) → FirstFrom (scoped n (size_of o) s) from (Some p)
+pub atom_found : (o : Order) (n from p : ℕ) (s : Scope) → FirstFrom (clipped n (members s.core)) from (Some p) → FirstFrom (scoped n (size_of o) s) from (Some p)
 atom_found o n from p s f =
     let l = ltb-true p n (and_parts (ltb p n) _ f.1).0 in
     (f.0, atom_at o n p s l ∙ f.1, λ q g h. atom_at o n q s (omega arith) ∙ f.2 q g h)
 
-no_more : (n from : ℕ) (s : Scope) → FirstFrom (clipped n (members s.core)) from None → FirstFrom (scoped n 1 s) from None
+pub no_more : (n from : ℕ) (s : Scope) → FirstFrom (clipped n (members s.core)) from None → FirstFrom (scoped n 1 s) from None
 no_more n from s f p g = ⊎_elim (λ l. atom_at One n p s l ∙ f p g) (λ l. at_none 1 n p (around s) (members s.core) (rw one_count l)) (cases_lt p n)
 
-then_pairs : (n from : ℕ) (s : Scope) (r : Option ℕ) → FirstFrom (clipped n (members s.core)) from None → FirstFrom (scoped_pairs n s) from r → FirstFrom (scoped n 2 s) from r
+pub then_pairs : (n from : ℕ) (s : Scope) (r : Option ℕ) → FirstFrom (clipped n (members s.core)) from None → FirstFrom (scoped_pairs n s) from r → FirstFrom (scoped n 2 s) from r
 then_pairs n from s r f = go r
   where
     same : (p : ℕ) → from ≤ p → scoped n 2 s p ≡ scoped_pairs n s p

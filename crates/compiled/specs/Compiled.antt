@@ -2,4 +2,4 @@
 -- these names here too.
 pub use Rattle.heuristics.specs.Smalls.{set_at}
 unfoldable pub use Rattle.heuristics.specs.Compiled.{kept, flat}
-pub use Rattle.heuristics.specs.Compiled.{within, within_meeting, carrying, cargo, carriers, all_carriers, compiled}
+pub use Rattle.heuristics.specs.Compiled.{within, within_meeting, carrying, cargo, carriers, all_carriers, compiled, empty_task, compiled_task, compiled_sound}

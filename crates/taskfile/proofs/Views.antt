@@ -90,10 +90,10 @@ module _ (v : FileView) where
       abbrev reading : List ℕ → Result (Entry × List ℕ) Fault
       reading b = entry v.atoms (length v.records.now) (Some a) b
 
-      row_shown : (r : Row) (rest : List ℕ) → SoundAction v.atoms (row_action r) → reading record_bytes ≡ Ok (entry_of (row_action r), rest) → row_action r ≡ (view_task v).action a
+      pub row_shown : (r : Row) (rest : List ℕ) → SoundAction v.atoms (row_action r) → reading record_bytes ≡ Ok (entry_of (row_action r), rest) → row_action r ≡ (view_task v).action a
       row_shown r rest s e = sym (view_action a (row_action r) l (ap (λ b. action_or_none (reading b)) same_bytes ∙ (ap action_or_none e ∙ row_back r)) s)
 
-      none_shown : (f : Fault) → reading record_bytes ≡ Err f → (view_task v).action a ≡ no_action
+      pub none_shown : (f : Fault) → reading record_bytes ≡ Err f → (view_task v).action a ≡ no_action
       none_shown f e = view_action a no_action l (ap (λ b. action_or_none (reading b)) same_bytes ∙ ap action_or_none e) (sound_none v.atoms)
 
 -- WHAT THE ANSWERS SHOW -----------------------------------------------------
